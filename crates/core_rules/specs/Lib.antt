@@ -1,3 +1,5 @@
 pub mod Term
 pub mod Stored
 pub mod Substitution
+pub mod Signature
+pub mod Mapped

@@ -47,9 +47,9 @@ abbrev pub under : List Term → Term → Term
 under r t = over (env_var r) 0 t
 
 -- what stands for metavariable m at ts: its solution under these arguments, where it has one
-abbrev pub solved : ℕ → Terms → Option Term → Term
-solved m ts None = Meta m ts
-solved m ts (Some t) = under (to_list ts) t
+abbrev pub put_solution : ℕ → Terms → Option Term → Term
+put_solution m ts None = Meta m ts
+put_solution m ts (Some t) = under (to_list ts) t
 
 -- t with each metavariable that s solves replaced by its solution; what stands in the solutions is left as it is
 abbrev mutual
@@ -63,7 +63,7 @@ abbrev mutual
   replace s (Fam d) = Fam d
   replace s (Con k ts) = Con k (replace_all s ts)
   replace s (Proj f t) = Proj f (replace s t)
-  replace s (Meta m ts) = solved m (replace_all s ts) (s m)
+  replace s (Meta m ts) = put_solution m (replace_all s ts) (s m)
 
   pub replace_all : (ℕ → Option Term) → Terms → Terms
   replace_all s End = End
