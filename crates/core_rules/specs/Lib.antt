@@ -3,3 +3,4 @@ pub mod Stored
 pub mod Substitution
 pub mod Signature
 pub mod Mapped
+pub mod StoredSignature
