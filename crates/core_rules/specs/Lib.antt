@@ -10,4 +10,5 @@ pub mod Typing
 pub mod TypedTree
 pub mod InScope
 pub mod Derivable
+pub mod Laws
 pub mod StoredSignature
