@@ -1,2 +1,5 @@
 pub mod Traversal
 pub mod Lifting
+pub mod Spines
+pub mod Constructors
+pub mod Renaming

@@ -2,6 +2,7 @@
 use Rattle.std.specs.Prelude.{ℕ, ◌+◌, List, [], ◌∷◌, ◌++◌, length, map, zero, suc}
 use Rattle.core_rules.specs.declared.Flag.{Flag}
 use Rattle.core_rules.specs.Term.{Term, Var, Sort, Pi, App, Fam, Proj}
+use Rattle.core_rules.specs.Substitution.{over}
 use Rattle.core_rules.specs.Signature.{Telescope, ConDecl, FamDecl, Signature, fields_of}
 
 -- an argument with its flag, or a projection
@@ -45,3 +46,11 @@ fam_type d = pi_over d.params (pi_over d.indices (Sort d.level))
 -- the type of a constructor of family number d under the parameters: it ends in the family at its parameters and then the indices
 abbrev pub con_type : ℕ → FamDecl Term → ConDecl Term → Term
 con_type d decl c = pi_over c.args (elims (Fam d) (args decl.params (vars_from (length c.args) (length decl.params)) ++ args decl.indices c.indices))
+
+-- the changes of `over` on eliminations
+abbrev pub elim_over : (ℕ → ℕ → Term) → ℕ → Elim → Elim
+elim_over f d (Arg b u) = Arg b (over f d u)
+elim_over f d (Field k) = Field k
+
+abbrev pub elims_over : (ℕ → ℕ → Term) → ℕ → List Elim → List Elim
+elims_over f d es = map (elim_over f d) es
