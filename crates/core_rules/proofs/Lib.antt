@@ -3,3 +3,5 @@ pub mod Lifting
 pub mod Spines
 pub mod Constructors
 pub mod Renaming
+pub mod Converted
+pub mod Changes
