@@ -5,3 +5,4 @@ pub mod Constructors
 pub mod Renaming
 pub mod Converted
 pub mod Changes
+pub mod Substitutions
