@@ -6,7 +6,7 @@ use Rattle.core_rules.specs.Term.{Term, Var, Sort, Pi, Lam, App, Def, Fam, Con, 
 use Rattle.core_rules.specs.Substitution.{over, over_all}
 use Rattle.core_rules.specs.Signature.{Signature}
 use Rattle.core_rules.specs.Elimination.{projections}
-use Rattle.core_rules.specs.Run.{ConApp, con_app, takes, is_of, full_con, parts}
+use Rattle.core_rules.specs.Run.{ConApp, con_app, takes, is_record_con, full_con, parts}
 use Rattle.core_rules.proofs.Spines.{projections-over}
 
 abbrev pub con_over : (ℕ → ℕ → Term) → ℕ → ConApp → ConApp
@@ -46,11 +46,11 @@ pub record IsVariable (t : Term) : Type 0 where
   pub is : t ≡ Var at
 
 abbrev own_args : Signature Term → ℕ → ConApp → Option (List Term)
-own_args g k s = cond (is_of g s.con k) (Some s.args) None
+own_args g k s = cond (is_record_con g s.con k) (Some s.args) None
 
 pub own_args-over : (g : Signature Term) (f : ℕ → ℕ → Term) (d k : ℕ) (t : Term) (s : ConApp)
     → map (over f d) (unwrap_or (own_args g k s) (projections g k t)) ≡ unwrap_or (own_args g k (con_over f d s)) (projections g k (over f d t))
-own_args-over g f d k t s = by_test (is_of g s.con k)
+own_args-over g f d k t s = by_test (is_record_con g s.con k)
   where
     by_test : (b : Bool) → map (over f d) (unwrap_or (cond b (Some s.args) None) (projections g k t)) ≡ unwrap_or (cond b (Some (map (over f d) s.args)) None) (projections g k (over f d t))
     by_test true = refl

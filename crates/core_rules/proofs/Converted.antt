@@ -1,13 +1,13 @@
 -- Conversion is kept by a change that is lifted under binders, where the run of a tree is.
-use Rattle.std.specs.Prelude.{◌≡◌, ℕ, ◌+◌, List, [], ◌∷◌, map, Option, Some, None, slice_get, option_map, refl}
-use Rattle.std.proofs.Common.{ap, sym, ◌∙◌, subst, add-zero, zero-add}
+use Rattle.std.specs.Prelude.{◌≡◌, ℕ, ◌+◌, List, [], ◌∷◌, option_map}
+use Rattle.std.proofs.Common.{ap, sym, ◌∙◌, subst, add-zero}
 use Rattle.std.proofs.lemmas.Option.{slice_get-map}
 use Rattle.core_rules.specs.declared.Flag.{Flag}
-use Rattle.core_rules.specs.Term.{Term, Terms, Var, Lam, App, Def, Con, Proj}
+use Rattle.core_rules.specs.Term.{Term, Terms, Var, App, Def, Con}
 use Rattle.core_rules.specs.Substitution.{over, over_all, shift, subst as put}
 use Rattle.core_rules.specs.Signature.{Signature, Tree}
 use Rattle.core_rules.specs.Elimination.{Elim, Arg, Field, elims, args, projections, elims_over}
-use Rattle.core_rules.specs.Run.{Run, full_con}
+use Rattle.core_rules.specs.Run.{Run}
 use Rattle.core_rules.specs.Conversion as C
 use Rattle.core_rules.specs.Conversion.{Conv, ConvAll, IsArgument, IsEtaCon}
 use Rattle.core_rules.specs.Laws.{IsLifted}
@@ -37,14 +37,20 @@ module _ (f : ℕ → ℕ → Term) (l : IsLifted f) where
   over-eta d b t = cc (over-shift f l 1 d t, l.own d)
 
   over-record : (g : Signature Term) (d k n : ℕ) (ps : Terms) (t : Term) (is : IsEtaCon g k n)
-    → over f d (elims (Con k ps) (args is.con.args (projections g n t))) ≡ elims (Con k (over_all f d ps)) (args is.con.args (projections g n (over f d t)))
+      → over f d (elims (Con k ps) (args is.con.args (projections g n t))) ≡ elims (Con k (over_all f d ps)) (args is.con.args (projections g n (over f d t)))
   over-record g d k n ps t is = over-elims f d (Con k ps) (args is.con.args (projections g n t))
-    ∙ ap (λ es. elims (Con k (over_all f d ps)) es) (args-over f d is.con.args (projections g n t) ∙ ap (args is.con.args) (projections-over f d g n t))
+      ∙ ap (λ es. elims (Con k (over_all f d ps)) es) (args-over f d is.con.args (projections g n t) ∙ ap (args is.con.args) (projections-over f d g n t))
 
   over-argument : (g : Signature Term) (d k : ℕ) (t u : Term) → IsArgument g k t u → IsArgument g k (over f d t) (over f d u)
   over-argument g d k t u is = record {
-    fam = is.fam; at = is.at; con = con_over f d is.con; place = is.place; full = full_con-over g f d t is.con is.full; own = is.own;
-    is = slice_get-map (over f d) is.con.args is.at ∙ ap (option_map (over f d)) is.is }
+    fam = is.fam;
+    at = is.at;
+    con = con_over f d is.con;
+    place = is.place;
+    full = full_con-over g f d t is.con is.full;
+    own = is.own;
+    is = slice_get-map (over f d) is.con.args is.at ∙ ap (option_map (over f d)) is.is;
+  }
 
   module _ (g : Signature Term) (runs : (d : ℕ) (T : Tree Term) (es : List Elim) (u : Term) → Run g T [] es u → RunsTo g T [] (elims_over f d es) (over f d u)) where
     mutual
@@ -63,8 +69,8 @@ module _ (f : ℕ → ℕ → Term) (l : IsLifted f) where
       conv-over d (C.eta_record {k = k} {d = n} {t = t} ps is) = C.then (C.eta_record (over_all f d ps) is) (conv_by (sym (over-record g d k n ps t is)))
       conv-over d (C.field {f = k} {t = t} {u = u} is) = C.field (over-argument g d k t u is)
       conv-over d (C.unfolds {T = T} {u = u} k es e h) =
-        let r = runs d T es u h in
-        C.then (conv_by (over-elims f d (Def k) es)) (C.then (C.unfolds k (elims_over f d es) e r.runs) r.is)
+          let r = runs d T es u h in
+          C.then (conv_by (over-elims f d (Def k) es)) (C.then (C.unfolds k (elims_over f d es) e r.runs) r.is)
 
       pub conv_all-over : {ts us : Terms} (d : ℕ) → ConvAll g ts us → ConvAll g (over_all f d ts) (over_all f d us)
       conv_all-over d C.ends = C.ends

@@ -6,3 +6,7 @@ pub mod Renaming
 pub mod Converted
 pub mod Changes
 pub mod Substitutions
+pub mod Pointwise
+pub mod Weakening
+pub mod Closed
+pub mod Changed

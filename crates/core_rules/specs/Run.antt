@@ -1,10 +1,10 @@
 -- What a case tree gives on eliminations.
-use Rattle.std.specs.Prelude.{◌≡◌, ℕ, ◌+◌, Bool, false, eqb, cond, List, [], ◌∷◌, ◌++◌, length, map, reverse, take, drop, Option, Some, None, option_and_then, unwrap_or}
+use Rattle.std.specs.Prelude.{◌≡◌, ℕ, ◌+◌, Bool, false, ◌&&◌, eqb, cond, List, [], ◌∷◌, ◌++◌, length, map, reverse, take, drop, Option, Some, None, option_and_then, unwrap_or}
 use Rattle.std.specs.Option.{option_map_or}
 use Rattle.core_rules.specs.declared.Flag.{Flag}
 use Rattle.core_rules.specs.Term.{Term, Terms, Var, Sort, Pi, Lam, App, Def, Fam, Con, Proj, Meta}
 use Rattle.core_rules.specs.Substitution.{value_at, under}
-use Rattle.core_rules.specs.Signature.{Branch, Tree, Leaf, Intro, Cosplit, Split, RecordSplit, CoBranches, ConBranches, co_branch, con_branch, Signature, con_place, con_decl}
+use Rattle.core_rules.specs.Signature.{Branch, Tree, Leaf, Intro, Cosplit, Split, RecordSplit, CoBranches, ConBranches, co_branch, con_branch, Signature, con_place, con_decl, fam_decl}
 use Rattle.core_rules.specs.Elimination.{Elim, Arg, Field, elims, projections}
 
 -- a constructor at parameters and arguments
@@ -30,9 +30,9 @@ con_app (Meta m ts) us = None
 abbrev pub takes : Signature Term → ℕ → ℕ → Bool
 takes g k n = option_map_or (λ c. eqb (length c.args) n) (con_decl g k) false
 
--- constructor k is one of family d
-abbrev pub is_of : Signature Term → ℕ → ℕ → Bool
-is_of g k d = option_map_or (λ p. eqb p.0 d) (con_place g k) false
+-- k is the constructor of d, which is a record
+abbrev pub is_record_con : Signature Term → ℕ → ℕ → Bool
+is_record_con g k d = option_map_or (λ p. eqb p.0 d) (con_place g k) false && option_map_or (λ decl. decl.is_record) (fam_decl g d) false
 
 -- the constructor with all its arguments that t itself is
 abbrev pub full_con : Signature Term → Term → Option ConApp
@@ -40,7 +40,7 @@ full_con g t = option_and_then (λ s. cond (takes g s.con (length s.args)) (Some
 
 -- the arguments of t where it is itself the constructor of record d with all its arguments, else its projections
 abbrev pub parts : Signature Term → ℕ → Term → List Term
-parts g d t = unwrap_or (option_and_then (λ s. cond (is_of g s.con d) (Some s.args) None) (full_con g t)) (projections g d t)
+parts g d t = unwrap_or (option_and_then (λ s. cond (is_record_con g s.con d) (Some s.args) None) (full_con g t)) (projections g d t)
 
 -- the environment r with us in the place of variable k
 abbrev pub spread : ℕ → List Term → List Term → List Term
