@@ -10,3 +10,4 @@ pub mod Pointwise
 pub mod Weakening
 pub mod Closed
 pub mod Changed
+pub mod Weakened

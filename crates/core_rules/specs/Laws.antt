@@ -1,9 +1,16 @@
 -- The statements of the laws of substitution, conversion and typing.
-use Rattle.std.specs.Prelude.{◌≡◌, ℕ, ◌+◌}
+use Rattle.std.specs.Prelude.{◌≡◌, ℕ, ◌+◌, List, [], ◌∷◌, ◌++◌, length}
 use Rattle.core_rules.specs.Term.{Term, Var}
 use Rattle.core_rules.specs.Substitution.{shift}
+use Rattle.core_rules.specs.Signature.{Entry, Context}
+use Rattle.core_rules.specs.Typing.{entry}
 
 -- what f does under one more binder is what it does here, shifted, and the binder's own variable stays
 pub record IsLifted (f : ℕ → ℕ → Term) : Type 0 where
   pub own : (d : ℕ) → f (d + 1) 0 ≡ Var 0
   pub later : (d i : ℕ) → f (d + 1) (i + 1) ≡ shift (f d i) 0 1
+
+-- the context in which entries stand between the inner ones and the rest
+abbrev pub inserted : Context Term → Context Term → Context Term → Context Term
+inserted [] new c = new ++ c
+inserted (e ∷ inner) new c = entry e.flag e.name (shift e.ty (length inner) (length new)) ∷ inserted inner new c
