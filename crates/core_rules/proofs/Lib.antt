@@ -11,3 +11,6 @@ pub mod Weakening
 pub mod Closed
 pub mod Changed
 pub mod Weakened
+pub mod Places
+pub mod Records
+pub mod Substituted

@@ -1,8 +1,9 @@
 -- The statements of the laws of substitution, conversion and typing.
-use Rattle.std.specs.Prelude.{◌≡◌, ℕ, ◌+◌, List, [], ◌∷◌, ◌++◌, length}
+use Rattle.std.specs.Prelude.{◌≡◌, ℕ, ◌+◌, [], ◌∷◌, ◌++◌, length, Some}
 use Rattle.core_rules.specs.Term.{Term, Var}
 use Rattle.core_rules.specs.Substitution.{shift}
-use Rattle.core_rules.specs.Signature.{Entry, Context}
+use Rattle.core_rules.specs.Signature.{Context, Signature, FamDecl, fam_decl}
+use Rattle.core_rules.specs.InScope.{HasShape}
 use Rattle.core_rules.specs.Typing.{entry}
 
 -- what f does under one more binder is what it does here, shifted, and the binder's own variable stays
@@ -14,3 +15,6 @@ pub record IsLifted (f : ℕ → ℕ → Term) : Type 0 where
 abbrev pub inserted : Context Term → Context Term → Context Term → Context Term
 inserted [] new c = new ++ c
 inserted (e ∷ inner) new c = entry e.flag e.name (shift e.ty (length inner) (length new)) ∷ inserted inner new c
+
+abbrev pub FamiliesHaveShape : Signature Term → Type 0
+FamiliesHaveShape g = (d : ℕ) (decl : FamDecl Term) → fam_decl g d ≡ Some decl → HasShape decl
