@@ -14,3 +14,4 @@ pub mod Weakened
 pub mod Places
 pub mod Records
 pub mod Substituted
+pub mod SubstitutedTyping
