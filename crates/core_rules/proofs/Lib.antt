@@ -15,3 +15,7 @@ pub mod Places
 pub mod Records
 pub mod Substituted
 pub mod SubstitutedTyping
+pub mod Inversions
+pub mod OneRun
+pub mod SameTerms
+pub mod Growth

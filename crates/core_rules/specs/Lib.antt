@@ -10,5 +10,6 @@ pub mod Typing
 pub mod TypedTree
 pub mod InScope
 pub mod Derivable
+pub mod Inversion
 pub mod Laws
 pub mod StoredSignature
