@@ -5,8 +5,8 @@ use Rattle.core_rules.specs.Term.{Term, Terms, Var, Sort, Pi, Lam, App, Def, Fam
 use Rattle.core_rules.specs.Substitution.{over, over_all}
 use Rattle.core_rules.specs.Signature.{Telescope, Signature, Decl, Postulate, Family, Open, Function, FamDecl, defs, decl_type, def_type, fam_decl}
 use Rattle.core_rules.specs.Elimination.{pi_over, fam_type}
-use Rattle.core_rules.specs.InScope.{InScope, AllInScope, TelescopeInScope, DeclInScope, FamilyInScope, SignatureInScope}
-use Rattle.core_rules.specs.Laws.{IsLifted}
+use Rattle.core_rules.specs.InScope.{InScope, AllInScope, TelescopeInScope, DeclInScope, FamilyInScope, SignatureInScope, any_meta}
+use Rattle.core_rules.specs.Laws.{IsLifted, FamiliesHaveShape}
 use Rattle.core_rules.proofs.Lifting.{own_variable}
 
 module _ (f : ℕ → ℕ → Term) (l : IsLifted f) (g : Signature Term) (M : ℕ → ℕ → Type 0) (d : ℕ) where
@@ -93,3 +93,6 @@ module _ (M : ℕ → ℕ → Type 0) where
 
     pub fam-closed : (k : ℕ) (d : FamDecl Term) → fam_decl g k ≡ Some d → IsClosed M (fam_type d)
     fam-closed k d e = let p = fam_stands g k d e in record { signature = take p.place g; holds = family-in_scope (take p.place g) M d (s p.place (Family d) p.is) }
+
+pub have-shape : (g : Signature Term) → SignatureInScope g any_meta → FamiliesHaveShape g
+have-shape g s d decl e = let p = fam_stands g d decl e in (s p.place (Family decl) p.is).shape

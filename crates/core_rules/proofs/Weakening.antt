@@ -31,8 +31,11 @@ conv-test : {g : Signature Term} (b : Bool) {t t' u u' : Term} → Conv g t t' �
 conv-test true h k = h
 conv-test false h k = k
 
+pub conv-values : {g : Signature Term} (r s : List Term) (t : Term) → ((i : ℕ) → Conv g (value_at r i) (value_at s i)) → Conv g (under r t) (under s t)
+conv-values {g = g} r s t h = over-conv g (env_var r) (env_var s) (λ d i. conv-test (ltb i d) C.same (conv-shift 0 d (h (i - d)))) 0 t
+
 pub conv-under : {g : Signature Term} {r s : List Term} (t : Term) → ConvEnv g r s → Conv g (under r t) (under s t)
-conv-under {g = g} {r = r} {s = s} t h = over-conv g (env_var r) (env_var s) (λ d i. conv-test (ltb i d) C.same (conv-shift 0 d (conv-value_at (i - d) h))) 0 t
+conv-under {r = r} {s = s} t h = conv-values r s t (λ i. conv-value_at i h)
 
 -- convertible terms for a variable
 pub conv-subst_by : {g : Signature Term} {u v : Term} (t : Term) (at : ℕ) → Conv g u v → Conv g (subst t at u) (subst t at v)
