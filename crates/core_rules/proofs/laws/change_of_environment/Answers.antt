@@ -1,5 +1,5 @@
 -- A change that is lifted under binders passes an environment.
-use Rattle.core_rules.proofs.Lifting.{over-under}
+use Rattle.core_rules.proofs.Substitution.Lifted.{over-under}
 use Rattle.core_rules.proofs.laws.change_of_environment.Goals as goal
 
 pub returns : goal.returns

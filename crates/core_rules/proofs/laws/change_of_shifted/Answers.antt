@@ -1,5 +1,5 @@
 -- A change that is lifted under binders passes the shift by them.
-use Rattle.core_rules.proofs.Lifting.{over-shift}
+use Rattle.core_rules.proofs.Substitution.Lifted.{over-shift}
 use Rattle.core_rules.proofs.laws.change_of_shifted.Goals as goal
 
 pub returns : goal.returns

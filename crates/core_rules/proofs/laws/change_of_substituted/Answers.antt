@@ -1,5 +1,5 @@
 -- A change that is lifted under binders passes a substitution.
-use Rattle.core_rules.proofs.Lifting.{over-subst}
+use Rattle.core_rules.proofs.Substitution.Lifted.{over-subst}
 use Rattle.core_rules.proofs.laws.change_of_substituted.Goals as goal
 
 pub returns : goal.returns

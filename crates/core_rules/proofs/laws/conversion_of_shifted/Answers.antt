@@ -1,5 +1,5 @@
 -- Conversion is kept by a shift.
-use Rattle.core_rules.proofs.Weakening.{conv-shift}
+use Rattle.core_rules.proofs.Conversion.Shifted.{conv-shift}
 use Rattle.core_rules.proofs.laws.conversion_of_shifted.Goals as goal
 
 pub returns : goal.returns

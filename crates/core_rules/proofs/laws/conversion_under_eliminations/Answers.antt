@@ -1,5 +1,5 @@
 -- Conversion is kept under eliminations.
-use Rattle.core_rules.proofs.Converted.{conv-elims}
+use Rattle.core_rules.proofs.Conversion.Changed.{conv-elims}
 use Rattle.core_rules.proofs.laws.conversion_under_eliminations.Goals as goal
 
 pub returns : goal.returns

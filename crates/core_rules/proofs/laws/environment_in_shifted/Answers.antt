@@ -1,5 +1,5 @@
 -- In a shifted term an environment does not read the values of the variables that the shift has made.
-use Rattle.core_rules.proofs.Substitutions.{under-shift}
+use Rattle.core_rules.proofs.Substitution.Exchange.{under-shift}
 use Rattle.core_rules.proofs.laws.environment_in_shifted.Goals as goal
 
 pub returns : goal.returns

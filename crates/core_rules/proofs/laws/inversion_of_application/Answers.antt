@@ -1,5 +1,5 @@
 -- What the typing of an application comes from.
-use Rattle.core_rules.proofs.Inversions.{typing-app}
+use Rattle.core_rules.proofs.Typing.Inverted.{typing-app}
 use Rattle.core_rules.proofs.laws.inversion_of_application.Goals as goal
 
 pub returns : goal.returns

@@ -1,5 +1,5 @@
 -- What the typing of a constructor at parameters comes from.
-use Rattle.core_rules.proofs.Inversions.{typing-con}
+use Rattle.core_rules.proofs.Typing.Inverted.{typing-con}
 use Rattle.core_rules.proofs.laws.inversion_of_constructor.Goals as goal
 
 pub returns : goal.returns

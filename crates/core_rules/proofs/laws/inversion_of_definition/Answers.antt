@@ -1,5 +1,5 @@
 -- The type of a postulate or function is convertible to its declared one.
-use Rattle.core_rules.proofs.Inversions.{typing-def}
+use Rattle.core_rules.proofs.Typing.Inverted.{typing-def}
 use Rattle.core_rules.proofs.laws.inversion_of_definition.Goals as goal
 
 pub returns : goal.returns

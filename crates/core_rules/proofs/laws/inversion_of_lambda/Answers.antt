@@ -1,5 +1,5 @@
 -- What the typing of a lambda comes from.
-use Rattle.core_rules.proofs.Inversions.{typing-lam}
+use Rattle.core_rules.proofs.Typing.Inverted.{typing-lam}
 use Rattle.core_rules.proofs.laws.inversion_of_lambda.Goals as goal
 
 pub returns : goal.returns

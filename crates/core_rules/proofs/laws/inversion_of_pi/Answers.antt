@@ -1,5 +1,5 @@
 -- What the typing of a function type comes from.
-use Rattle.core_rules.proofs.Inversions.{typing-pi}
+use Rattle.core_rules.proofs.Typing.Inverted.{typing-pi}
 use Rattle.core_rules.proofs.laws.inversion_of_pi.Goals as goal
 
 pub returns : goal.returns

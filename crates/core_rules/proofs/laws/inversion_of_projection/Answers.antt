@@ -1,5 +1,5 @@
 -- What the typing of a projection comes from.
-use Rattle.core_rules.proofs.Inversions.{typing-proj}
+use Rattle.core_rules.proofs.Typing.Inverted.{typing-proj}
 use Rattle.core_rules.proofs.laws.inversion_of_projection.Goals as goal
 
 pub returns : goal.returns

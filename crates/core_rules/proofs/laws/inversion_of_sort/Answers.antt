@@ -1,5 +1,5 @@
 -- The type of a sort is convertible to the next sort.
-use Rattle.core_rules.proofs.Inversions.{typing-sort}
+use Rattle.core_rules.proofs.Typing.Inverted.{typing-sort}
 use Rattle.core_rules.proofs.laws.inversion_of_sort.Goals as goal
 
 pub returns : goal.returns

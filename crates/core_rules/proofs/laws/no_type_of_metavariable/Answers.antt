@@ -1,5 +1,5 @@
 -- A metavariable has no type.
-use Rattle.core_rules.proofs.Inversions.{typing-meta}
+use Rattle.core_rules.proofs.Typing.Inverted.{typing-meta}
 use Rattle.core_rules.proofs.laws.no_type_of_metavariable.Goals as goal
 
 pub returns : goal.returns

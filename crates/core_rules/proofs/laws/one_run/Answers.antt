@@ -1,5 +1,5 @@
 -- A tree gives at most one term.
-use Rattle.core_rules.proofs.OneRun as P
+use Rattle.core_rules.proofs.Run.Once as P
 use Rattle.core_rules.proofs.laws.one_run.Goals as goal
 
 pub returns : goal.returns

@@ -1,5 +1,5 @@
 -- A shift from further outside than the place of a substitution passes it.
-use Rattle.core_rules.proofs.Substitutions.{shift-subst_outside}
+use Rattle.core_rules.proofs.Substitution.Exchange.{shift-subst_outside}
 use Rattle.core_rules.proofs.laws.outer_shift_of_substitution.Goals as goal
 
 pub returns : goal.returns

@@ -1,5 +1,5 @@
 -- Each family of a signature in scope has its shape.
-use Rattle.core_rules.proofs.Closed.{have-shape}
+use Rattle.core_rules.proofs.Typing.Closed.{have-shape}
 use Rattle.core_rules.proofs.laws.shape_in_scope.Goals as goal
 
 pub returns : goal.returns

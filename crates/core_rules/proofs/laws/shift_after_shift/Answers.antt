@@ -1,5 +1,5 @@
 -- A shift that begins among the variables that another has made is one with it.
-use Rattle.core_rules.proofs.Lifting.{shift-shift}
+use Rattle.core_rules.proofs.Substitution.Lifted.{shift-shift}
 use Rattle.core_rules.proofs.laws.shift_after_shift.Goals as goal
 
 pub returns : goal.returns

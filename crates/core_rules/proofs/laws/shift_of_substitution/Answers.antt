@@ -1,5 +1,5 @@
 -- A shift from the place of a substitution on, or from further inside, passes it.
-use Rattle.core_rules.proofs.Substitutions.{shift-subst_inside}
+use Rattle.core_rules.proofs.Substitution.Exchange.{shift-subst_inside}
 use Rattle.core_rules.proofs.laws.shift_of_substitution.Goals as goal
 
 pub returns : goal.returns

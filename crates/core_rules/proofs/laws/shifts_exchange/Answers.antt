@@ -1,5 +1,5 @@
 -- Two other shifts pass each other.
-use Rattle.core_rules.proofs.Substitutions.{shift-shift_swap}
+use Rattle.core_rules.proofs.Substitution.Exchange.{shift-shift_swap}
 use Rattle.core_rules.proofs.laws.shifts_exchange.Goals as goal
 
 pub returns : goal.returns

@@ -1,5 +1,5 @@
 -- Two substitutions pass each other; the term of the second is put into that of the first.
-use Rattle.core_rules.proofs.Substitutions.{subst-subst}
+use Rattle.core_rules.proofs.Substitution.Exchange.{subst-subst}
 use Rattle.core_rules.proofs.laws.substitution_after_substitution.Goals as goal
 
 pub returns : goal.returns

@@ -1,5 +1,5 @@
 -- A substitution for the variable that a shift has made gives the term back.
-use Rattle.core_rules.proofs.Substitutions.{subst-shift}
+use Rattle.core_rules.proofs.Substitution.Exchange.{subst-shift}
 use Rattle.core_rules.proofs.laws.substitution_in_shifted.Goals as goal
 
 pub returns : goal.returns

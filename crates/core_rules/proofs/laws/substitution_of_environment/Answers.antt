@@ -1,5 +1,5 @@
 -- A substitution passes an environment: it is made in the values, and nowhere else.
-use Rattle.core_rules.proofs.Substitutions.{subst-under}
+use Rattle.core_rules.proofs.Substitution.Exchange.{subst-under}
 use Rattle.core_rules.proofs.laws.substitution_of_environment.Goals as goal
 
 pub returns : goal.returns

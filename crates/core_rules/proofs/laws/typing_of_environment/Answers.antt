@@ -1,6 +1,6 @@
 -- A typing is kept under an environment that fits its context.
-use Rattle.core_rules.proofs.SubstitutedTyping.{typing-under}
-use Rattle.core_rules.proofs.Closed.{have-shape}
+use Rattle.core_rules.proofs.Typing.Substituted.{typing-under}
+use Rattle.core_rules.proofs.Typing.Closed.{have-shape}
 use Rattle.core_rules.specs.InScope.{any_meta}
 use Rattle.core_rules.proofs.laws.typing_of_environment.Goals as goal
 

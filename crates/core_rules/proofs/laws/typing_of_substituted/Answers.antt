@@ -1,6 +1,6 @@
 -- A typing is kept where a term of its type is put for the innermost variable.
-use Rattle.core_rules.proofs.SubstitutedTyping.{typing-subst}
-use Rattle.core_rules.proofs.Closed.{have-shape}
+use Rattle.core_rules.proofs.Typing.Substituted.{typing-subst}
+use Rattle.core_rules.proofs.Typing.Closed.{have-shape}
 use Rattle.core_rules.specs.InScope.{any_meta}
 use Rattle.core_rules.proofs.laws.typing_of_substituted.Goals as goal
 

@@ -1,5 +1,5 @@
 -- A typing is kept where entries are put into the context.
-use Rattle.core_rules.proofs.Weakened.{typing-inserted}
+use Rattle.core_rules.proofs.Typing.Weakened.{typing-inserted}
 use Rattle.core_rules.specs.InScope.{any_meta}
 use Rattle.core_rules.proofs.laws.weakening.Goals as goal
 

@@ -7,7 +7,7 @@ use Rattle.core_rules.specs.Signature.{Telescope, Signature, Decl, Postulate, Fa
 use Rattle.core_rules.specs.Elimination.{pi_over, fam_type}
 use Rattle.core_rules.specs.InScope.{InScope, AllInScope, TelescopeInScope, DeclInScope, FamilyInScope, SignatureInScope, any_meta}
 use Rattle.core_rules.specs.Laws.{IsLifted, FamiliesHaveShape}
-use Rattle.core_rules.proofs.Lifting.{own_variable}
+use Rattle.core_rules.proofs.Substitution.Lifted.{own_variable}
 
 module _ (f : ℕ → ℕ → Term) (l : IsLifted f) (g : Signature Term) (M : ℕ → ℕ → Type 0) (d : ℕ) where
   next : (k : ℕ) (t : Term) → over f (d + (k + 1)) t ≡ t → over f (d + k + 1) t ≡ t

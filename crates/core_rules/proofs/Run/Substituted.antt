@@ -12,13 +12,13 @@ use Rattle.core_rules.specs.Run.{Run, ConApp, takes, is_record_con, full_con, pa
 use Rattle.core_rules.specs.Conversion as C
 use Rattle.core_rules.specs.Conversion.{Conv, IsArgument}
 use Rattle.core_rules.specs.Laws.{IsLifted, FamiliesHaveShape}
-use Rattle.core_rules.proofs.Lifting.{over-under}
+use Rattle.core_rules.proofs.Substitution.Lifted.{over-under}
 use Rattle.core_rules.proofs.Spines.{over-elims}
-use Rattle.core_rules.proofs.Constructors.{full_con-over, con_over}
-use Rattle.core_rules.proofs.Converted.{conv-elims, conv_by, RunsTo}
-use Rattle.core_rules.proofs.Weakening.{ConvEnv, conv-under}
-use Rattle.core_rules.proofs.Weakening as W
-use Rattle.core_rules.proofs.Records.{record_term, argument}
+use Rattle.core_rules.proofs.Run.Constructors.{full_con-over, con_over}
+use Rattle.core_rules.proofs.Conversion.Changed.{conv-elims, conv_by, RunsTo}
+use Rattle.core_rules.proofs.Conversion.Shifted.{ConvEnv, conv-under}
+use Rattle.core_rules.proofs.Conversion.Shifted as W
+use Rattle.core_rules.proofs.Run.Records.{record_term, argument}
 
 -- What stands in the environment after the change f for w: w changed, or, where w is no constructor, any term that is convertible to that
 module _ (g : Signature Term) (f : ℕ → ℕ → Term) (d : ℕ) where

@@ -3,7 +3,7 @@ use Rattle.core_rules.specs.Term.{Term, Terms, Var, Sort, Pi, Lam, App, Def, Fam
 use Rattle.core_rules.specs.Signature.{Signature}
 use Rattle.core_rules.specs.Conversion as C
 use Rattle.core_rules.specs.Conversion.{Conv, ConvAll}
-use Rattle.core_rules.proofs.Converted.{conv_by}
+use Rattle.core_rules.proofs.Conversion.Changed.{conv_by}
 
 module _ (g : Signature Term) where
   mutual

@@ -8,11 +8,11 @@ use Rattle.core_rules.specs.InScope.{SignatureInScope}
 use Rattle.core_rules.specs.Typing as T
 use Rattle.core_rules.specs.Typing.{Typing, Fits, entry}
 use Rattle.core_rules.specs.Laws.{IsLifted, inserted}
-use Rattle.core_rules.proofs.Lifting.{over-shift, over_shift, shift_twice, shift_variable}
-use Rattle.core_rules.proofs.Changes.{shift_lifted}
-use Rattle.core_rules.proofs.Closed.{def-closed, fam-closed, closed-over}
-use Rattle.core_rules.proofs.Weakening.{conv-shift_under}
-use Rattle.core_rules.proofs.Changed.{typing-over}
+use Rattle.core_rules.proofs.Substitution.Lifted.{over-shift, over_shift, shift_twice, shift_variable}
+use Rattle.core_rules.proofs.Substitution.Changes.{shift_lifted}
+use Rattle.core_rules.proofs.Typing.Closed.{def-closed, fam-closed, closed-over}
+use Rattle.core_rules.proofs.Conversion.Shifted.{conv-shift_under}
+use Rattle.core_rules.proofs.Typing.Changed.{typing-over}
 
 -- variable i, which has the entry e, becomes a variable of c' with the changed type
 pub record IsRenamed (f : ℕ → ℕ → Term) (d i : ℕ) (e : Entry Term) (c' : Context Term) : Type 0 where

@@ -10,7 +10,7 @@ use Rattle.core_rules.specs.Run.{ConApp, con_app, takes, is_record_con, full_con
 use Rattle.core_rules.specs.Conversion.{IsArgument}
 use Rattle.core_rules.specs.InScope.{IsRecordShape}
 use Rattle.core_rules.specs.Laws.{FamiliesHaveShape}
-use Rattle.core_rules.proofs.Places.{field-place, length-fields_of}
+use Rattle.core_rules.proofs.Signature.Places.{field-place, length-fields_of}
 
 -- the value of an option, with what a test or a function says of it
 pub record IsValue {X : Type 0} (o : Option X) (P : X → Type 0) : Type 0 where

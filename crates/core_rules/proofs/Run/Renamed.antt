@@ -8,9 +8,9 @@ use Rattle.core_rules.specs.Elimination.{Elim, elims, elims_over}
 use Rattle.core_rules.specs.Run.{Run, ConApp, full_con, parts, spread, kept}
 use Rattle.core_rules.specs.Run as R
 use Rattle.core_rules.specs.Laws.{IsLifted}
-use Rattle.core_rules.proofs.Lifting.{over-under}
+use Rattle.core_rules.proofs.Substitution.Lifted.{over-under}
 use Rattle.core_rules.proofs.Spines.{over-elims, value_at-over, spread-over, kept-over}
-use Rattle.core_rules.proofs.Constructors.{IsVariable, full_con-over, parts-over, con_over}
+use Rattle.core_rules.proofs.Run.Constructors.{IsVariable, full_con-over, parts-over, con_over}
 
 module _ (g : Signature Term) (f : ℕ → ℕ → Term) (l : IsLifted f) (v : (d i : ℕ) → IsVariable (f d i)) (d : ℕ) where
   pub run-renamed : {T : Tree Term} {r : List Term} {es : List Elim} {t : Term} → Run g T r es t → Run g T (map (over f d) r) (elims_over f d es) (over f d t)

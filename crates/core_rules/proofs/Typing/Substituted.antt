@@ -11,16 +11,16 @@ use Rattle.core_rules.specs.Typing as T
 use Rattle.core_rules.specs.Typing.{Typing, Fits, entry}
 use Rattle.core_rules.specs.InScope.{SignatureInScope}
 use Rattle.core_rules.specs.Laws.{IsLifted, FamiliesHaveShape}
-use Rattle.core_rules.proofs.Lifting.{over-shift, shift_twice, shift_none, subst_shifted}
-use Rattle.core_rules.proofs.Changes.{subst_lifted, env_lifted}
-use Rattle.core_rules.proofs.Substitutions.{under-shift}
-use Rattle.core_rules.proofs.Closed.{def-closed, fam-closed, closed-over}
-use Rattle.core_rules.proofs.Converted.{conv-over}
-use Rattle.core_rules.proofs.Weakening.{conv-subst_by}
-use Rattle.core_rules.proofs.Substituted.{run-moved}
-use Rattle.core_rules.proofs.Substituted as S
-use Rattle.core_rules.proofs.Changed.{typing-over}
-use Rattle.core_rules.proofs.Weakened.{typing-inserted}
+use Rattle.core_rules.proofs.Substitution.Lifted.{over-shift, shift_twice, shift_none, subst_shifted}
+use Rattle.core_rules.proofs.Substitution.Changes.{subst_lifted, env_lifted}
+use Rattle.core_rules.proofs.Substitution.Exchange.{under-shift}
+use Rattle.core_rules.proofs.Typing.Closed.{def-closed, fam-closed, closed-over}
+use Rattle.core_rules.proofs.Conversion.Changed.{conv-over}
+use Rattle.core_rules.proofs.Conversion.Shifted.{conv-subst_by}
+use Rattle.core_rules.proofs.Run.Substituted.{run-moved}
+use Rattle.core_rules.proofs.Run.Substituted as S
+use Rattle.core_rules.proofs.Typing.Changed.{typing-over}
+use Rattle.core_rules.proofs.Typing.Weakened.{typing-inserted}
 
 module _ (g : Signature Term) (shapes : FamiliesHaveShape g) where
   pub conv-change : (f : ℕ → ℕ → Term) → IsLifted f → (d : ℕ) (t u : Term) → Conv g t u → Conv g (over f d t) (over f d u)

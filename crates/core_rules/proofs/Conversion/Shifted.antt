@@ -5,10 +5,10 @@ use Rattle.core_rules.specs.Substitution.{over, shift, shift_var, subst, subst_v
 use Rattle.core_rules.specs.Signature.{Signature}
 use Rattle.core_rules.specs.Conversion as C
 use Rattle.core_rules.specs.Conversion.{Conv}
-use Rattle.core_rules.proofs.Converted.{conv-over}
-use Rattle.core_rules.proofs.Changes.{shift_lifted, shift_variables}
-use Rattle.core_rules.proofs.Renaming.{run-renamed}
-use Rattle.core_rules.proofs.Pointwise.{over-conv}
+use Rattle.core_rules.proofs.Conversion.Changed.{conv-over}
+use Rattle.core_rules.proofs.Substitution.Changes.{shift_lifted, shift_variables}
+use Rattle.core_rules.proofs.Run.Renamed.{run-renamed}
+use Rattle.core_rules.proofs.Conversion.Pointwise.{over-conv}
 
 pub conv-shift_under : {g : Signature Term} {t u : Term} (from by d : ℕ) → Conv g t u → Conv g (over (shift_var from by) d t) (over (shift_var from by) d u)
 conv-shift_under {g = g} from by d h = conv-over (shift_var from by) (shift_lifted from by) g

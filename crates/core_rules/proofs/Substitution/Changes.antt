@@ -5,8 +5,8 @@ use Rattle.std.proofs.lemmas.Grind.{common_steps}
 use Rattle.core_rules.specs.Term.{Term, Var}
 use Rattle.core_rules.specs.Substitution.{shift, shift_var, subst_var, env_var, value_at}
 use Rattle.core_rules.specs.Laws.{IsLifted}
-use Rattle.core_rules.proofs.Lifting.{shift_twice, shift_variable}
-use Rattle.core_rules.proofs.Constructors.{IsVariable}
+use Rattle.core_rules.proofs.Substitution.Lifted.{shift_twice, shift_variable}
+use Rattle.core_rules.proofs.Run.Constructors.{IsVariable}
 
 shift_later : (from by d i : ℕ) → shift_var from by (d + 1) (i + 1) ≡ shift (shift_var from by d i) 0 1
 shift_later from by d i = grind (arith, common_steps)

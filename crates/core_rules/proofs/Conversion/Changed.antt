@@ -11,9 +11,9 @@ use Rattle.core_rules.specs.Run.{Run}
 use Rattle.core_rules.specs.Conversion as C
 use Rattle.core_rules.specs.Conversion.{Conv, ConvAll, IsArgument, IsEtaCon}
 use Rattle.core_rules.specs.Laws.{IsLifted}
-use Rattle.core_rules.proofs.Lifting.{over-subst, over-shift}
+use Rattle.core_rules.proofs.Substitution.Lifted.{over-subst, over-shift}
 use Rattle.core_rules.proofs.Spines.{over-elims, args-over, projections-over}
-use Rattle.core_rules.proofs.Constructors.{full_con-over, con_over}
+use Rattle.core_rules.proofs.Run.Constructors.{full_con-over, con_over}
 
 pub conv-elims : {g : Signature Term} {t u : Term} (es : List Elim) → Conv g t u → Conv g (elims t es) (elims u es)
 conv-elims [] h = h

@@ -10,8 +10,8 @@ use Rattle.core_rules.specs.Conversion.{Conv}
 use Rattle.core_rules.specs.Typing as T
 use Rattle.core_rules.specs.Typing.{Typing, Fits, IsCon, IsField, entry, field_env}
 use Rattle.core_rules.specs.Laws.{IsLifted}
-use Rattle.core_rules.proofs.Lifting.{over-under}
-use Rattle.core_rules.proofs.Converted.{over-beta}
+use Rattle.core_rules.proofs.Substitution.Lifted.{over-under}
+use Rattle.core_rules.proofs.Conversion.Changed.{over-beta}
 use Rattle.core_rules.proofs.Spines.{over-elims, args-over, projections-over, env_of-over, map-reverse}
 
 retype : {g : Signature Term} {c : Context Term} {t a b : Term} → a ≡ b → Typing g c t a → Typing g c t b

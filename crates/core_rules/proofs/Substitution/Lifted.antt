@@ -6,7 +6,7 @@ use Rattle.std.proofs.lemmas.Grind.{common_steps}
 use Rattle.core_rules.specs.Term.{Term, Var, Sort}
 use Rattle.core_rules.specs.Substitution.{over, shift, shift_var, subst, subst_var, env_var, under, value_at}
 use Rattle.core_rules.specs.Laws.{IsLifted}
-use Rattle.core_rules.proofs.Traversal.{over-from, over-swap, over-over, over_id}
+use Rattle.core_rules.proofs.Substitution.Traversal.{over-from, over-swap, over-over, over_id}
 
 shift-shift_var : (from m n to d i : ℕ) → from ≤ to → to ≤ from + m → over (shift_var to n) d (shift_var from m d i) ≡ shift_var from (m + n) d i
 shift-shift_var from m n to d i h k = grind (arith, common_steps)

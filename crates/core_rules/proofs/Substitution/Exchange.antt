@@ -6,9 +6,9 @@ use Rattle.std.proofs.lemmas.Grind.{common_steps}
 use Rattle.core_rules.specs.Term.{Term, Var, Sort}
 use Rattle.core_rules.specs.Substitution.{over, shift, shift_var, subst, subst_var, env_var, under}
 use Rattle.core_rules.specs.Laws.{IsLifted}
-use Rattle.core_rules.proofs.Traversal.{over-from, over-over, over-swap, over_id}
-use Rattle.core_rules.proofs.Lifting.{over-subst, over-shift, over-under, over_shift, shift_twice}
-use Rattle.core_rules.proofs.Changes.{shift_lifted, subst_lifted, env_lifted}
+use Rattle.core_rules.proofs.Substitution.Traversal.{over-from, over-over, over-swap, over_id}
+use Rattle.core_rules.proofs.Substitution.Lifted.{over-subst, over-shift, over-under, over_shift, shift_twice}
+use Rattle.core_rules.proofs.Substitution.Changes.{shift_lifted, subst_lifted, env_lifted}
 
 swap_var : (from by at to : ℕ) (d i : ℕ) → from ≤ to → over (shift_var (to + by) at) d (shift_var from by d i) ≡ over (shift_var from by) d (shift_var to at d i)
 swap_var from by at to d i h = grind (arith, common_steps)

@@ -1,0 +1,3 @@
+-- Laws of signatures.
+pub mod Places
+pub mod Growth

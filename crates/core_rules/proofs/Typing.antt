@@ -1,0 +1,6 @@
+-- Laws of typing.
+pub mod Closed
+pub mod Changed
+pub mod Weakened
+pub mod Substituted
+pub mod Inverted
