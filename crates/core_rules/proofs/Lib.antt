@@ -4,3 +4,4 @@ pub mod Run
 pub mod Conversion
 pub mod Typing
 pub mod Signature
+pub mod Derivations

@@ -13,3 +13,4 @@ pub mod TypedTree
 pub mod Derivable
 pub mod Inversion
 pub mod Laws
+pub mod Examples

@@ -3,10 +3,12 @@ use Rattle.std.specs.Prelude.{◌≡◌, ℕ, ◌⊎◌, ◌<◌, ◌≤◌, Lis
 use Rattle.std.proofs.Common.{ap, sym, ◌∙◌, subst, arith, ⊎_elim}
 use Rattle.std.proofs.lemmas.List.{take-append-le, take-take, take_all}
 use Rattle.core_rules.specs.Term.{Term, HasNoMeta}
-use Rattle.core_rules.specs.Signature.{Signature, Decl, Function, CoreClause, Tree}
+use Rattle.core_rules.specs.Signature.{Signature, Decl, FamDecl, Family, Function, fam_decl, CoreClause, Tree}
 use Rattle.core_rules.specs.Mapped.{AllDecl}
 use Rattle.core_rules.specs.Derivable.{Derivable, Good}
 use Rattle.core_rules.specs.Derivable as D
+use Rattle.core_rules.specs.InScope.{HasShape}
+use Rattle.core_rules.proofs.Signature.Places.{fam_stands}
 
 get_before : (g h : Signature Term) (i : ℕ) → i < length g → slice_get (g ++ h) i ≡ slice_get g i
 get_before [] h i b = absurd (omega arith)
@@ -53,3 +55,10 @@ no_function g x a qs T (D.function h t) = elim t [ ]
 -- no tree is typed yet
 pub derivable-no_function : (g : Signature Term) (i x : ℕ) (a : Term) (qs : List (CoreClause Term)) (T : Tree Term) → Derivable g → slice_get g i ≡ Some (Function x a qs T) → ⊥
 derivable-no_function g i x a qs T r h = no_function (take i g) x a qs T (r.good i (Function x a qs T) h)
+
+good_shape : (g : Signature Term) (d : FamDecl Term) → Good g (Family d) → HasShape d
+good_shape g d (D.family h) = h.shape
+
+-- each family of a derivable signature has its shape
+pub derivable-shape : (g : Signature Term) → Derivable g → (k : ℕ) (d : FamDecl Term) → fam_decl g k ≡ Some d → HasShape d
+derivable-shape g r k d e = let p = fam_stands g k d e in good_shape (take p.place g) d (r.good p.place (Family d) p.is)

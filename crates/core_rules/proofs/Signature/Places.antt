@@ -5,7 +5,7 @@ use Rattle.std.proofs.lemmas.Grind.{common_steps}
 use Rattle.std.proofs.lemmas.Option.{slice_get-map}
 use Rattle.std.proofs.lemmas.List.{length-map}
 use Rattle.core_rules.specs.Term.{Term}
-use Rattle.core_rules.specs.Signature.{Signature, numbers, places, field_counts, field_place, fields_of}
+use Rattle.core_rules.specs.Signature.{Signature, Decl, FamDecl, Postulate, Family, Open, Function, defs, fam_decl, numbers, places, field_counts, field_place, fields_of}
 
 pub length-numbers : (k n : ℕ) → length (numbers k n) ≡ n
 length-numbers k zero = refl
@@ -47,3 +47,29 @@ field-place g n i k h e =
     let b : i < get_or (field_counts g) n 0 = rw length-fields_of at h in
     let p : k ≡ sum (take n (field_counts g)) + i = cc (e, numbers_at (sum (take n (field_counts g))) (get_or (field_counts g) n 0) i b) in
     rw p (places_at 0 (field_counts g) n i b ∙ ap (λ m. Some (m, i)) (zero-add n))
+
+-- a declaration stands at some place of the signature
+pub record Stands (g : Signature Term) (d : Decl Term) : Type 0 where
+  pub place : ℕ
+  pub is : slice_get g place ≡ Some d
+
+later : {g : Signature Term} (d e : Decl Term) → Stands g d → Stands (e ∷ g) d
+later d e s = record { place = suc s.place; is = s.is }
+
+pub def_stands : (g : Signature Term) (k : ℕ) (d : Decl Term) → slice_get (defs g) k ≡ Some d → Stands g d
+def_stands [] k d e = absurd cc
+def_stands (Postulate x a ∷ g) zero d e = record { place = 0; is = e }
+def_stands (Postulate x a ∷ g) (suc k) d e = later d _ (def_stands g k d e)
+def_stands (Family c ∷ g) k d e = later d _ (def_stands g k d e)
+def_stands (Open x a ∷ g) zero d e = record { place = 0; is = e }
+def_stands (Open x a ∷ g) (suc k) d e = later d _ (def_stands g k d e)
+def_stands (Function x a qs T ∷ g) zero d e = record { place = 0; is = e }
+def_stands (Function x a qs T ∷ g) (suc k) d e = later d _ (def_stands g k d e)
+
+pub fam_stands : (g : Signature Term) (k : ℕ) (c : FamDecl Term) → fam_decl g k ≡ Some c → Stands g (Family c)
+fam_stands [] k c e = absurd cc
+fam_stands (Postulate x a ∷ g) k c e = later _ _ (fam_stands g k c e)
+fam_stands (Family b ∷ g) zero c e = record { place = 0; is = cc e }
+fam_stands (Family b ∷ g) (suc k) c e = later _ _ (fam_stands g k c e)
+fam_stands (Open x a ∷ g) k c e = later _ _ (fam_stands g k c e)
+fam_stands (Function x a qs T ∷ g) k c e = later _ _ (fam_stands g k c e)

@@ -7,6 +7,7 @@ use Rattle.core_rules.specs.Signature.{Telescope, Signature, Decl, Postulate, Fa
 use Rattle.core_rules.specs.Elimination.{pi_over, fam_type}
 use Rattle.core_rules.specs.InScope.{InScope, AllInScope, TelescopeInScope, DeclInScope, FamilyInScope, SignatureInScope, any_meta}
 use Rattle.core_rules.specs.Laws.{IsLifted, FamiliesHaveShape}
+use Rattle.core_rules.proofs.Signature.Places.{def_stands, fam_stands}
 use Rattle.core_rules.proofs.Substitution.Lifted.{own_variable}
 
 module _ (f : ℕ → ℕ → Term) (l : IsLifted f) (g : Signature Term) (M : ℕ → ℕ → Type 0) (d : ℕ) where
@@ -38,32 +39,6 @@ module _ (g : Signature Term) (M : ℕ → ℕ → Type 0) where
   pub family-in_scope : (d : FamDecl Term) → FamilyInScope g M d → InScope g M 0 (fam_type d)
   family-in_scope d h = pi_over-in_scope 0 d.params (pi_over d.indices (Sort d.level)) h.params
       (pi_over-in_scope (0 + length d.params) d.indices (Sort d.level) (let p : 0 + length d.params ≡ length d.params = omega arith in rw p h.indices) tt)
-
--- a declaration stands at some place of the signature
-pub record Stands (g : Signature Term) (d : Decl Term) : Type 0 where
-  pub place : ℕ
-  pub is : slice_get g place ≡ Some d
-
-later : {g : Signature Term} (d e : Decl Term) → Stands g d → Stands (e ∷ g) d
-later d e s = record { place = suc s.place; is = s.is }
-
-pub def_stands : (g : Signature Term) (k : ℕ) (d : Decl Term) → slice_get (defs g) k ≡ Some d → Stands g d
-def_stands [] k d e = absurd cc
-def_stands (Postulate x a ∷ g) zero d e = record { place = 0; is = e }
-def_stands (Postulate x a ∷ g) (suc k) d e = later d _ (def_stands g k d e)
-def_stands (Family c ∷ g) k d e = later d _ (def_stands g k d e)
-def_stands (Open x a ∷ g) zero d e = record { place = 0; is = e }
-def_stands (Open x a ∷ g) (suc k) d e = later d _ (def_stands g k d e)
-def_stands (Function x a qs T ∷ g) zero d e = record { place = 0; is = e }
-def_stands (Function x a qs T ∷ g) (suc k) d e = later d _ (def_stands g k d e)
-
-pub fam_stands : (g : Signature Term) (k : ℕ) (c : FamDecl Term) → fam_decl g k ≡ Some c → Stands g (Family c)
-fam_stands [] k c e = absurd cc
-fam_stands (Postulate x a ∷ g) k c e = later _ _ (fam_stands g k c e)
-fam_stands (Family b ∷ g) zero c e = record { place = 0; is = cc e }
-fam_stands (Family b ∷ g) (suc k) c e = later _ _ (fam_stands g k c e)
-fam_stands (Open x a ∷ g) k c e = later _ _ (fam_stands g k c e)
-fam_stands (Function x a qs T ∷ g) k c e = later _ _ (fam_stands g k c e)
 
 -- a term without variables, over some signature
 pub record IsClosed (M : ℕ → ℕ → Type 0) (a : Term) : Type 0 where
