@@ -1,11 +1,11 @@
 -- The derivations of the examples.
-use Rattle.std.specs.Prelude.{◌≡◌, ℕ, ◌+◌, ◌≤◌, ◌<◌, ◌-◌, ◌^◌, Bool, true, false, List, length, [], ◌∷◌, ◌++◌, slice_get, Some, refl, zero, suc}
+use Rattle.std.specs.Prelude.{◌≡◌, ℕ, ◌+◌, ◌<◌, ◌-◌, ◌^◌, Bool, true, false, List, length, [], ◌∷◌, slice_get, Some, refl, zero, suc}
 use Rattle.std.specs.List.{AllByRecursion}
 use Rattle.std.proofs.Common.{ap, sym, ◌∙◌, subst, arith}
 use Rattle.std.proofs.lemmas.Grind.{common_steps}
 use Rattle.core_rules.specs.declared.Flag.TheVariants.{Explicit, Implicit}
 use Rattle.core_rules.specs.Term.{Term, Terms, Var, Sort, Pi, App, Def, Fam, Con, Proj, End, HasNoMeta, size}
-use Rattle.core_rules.specs.Signature.{Decl, Postulate, Family, Signature, ConDecl, FamDecl, Entry, Context, fam_decl, without_cons}
+use Rattle.core_rules.specs.Signature.{Postulate, Family, Signature, FamDecl, Context, fam_decl, without_cons}
 use Rattle.core_rules.specs.Mapped.{AllDecl}
 use Rattle.core_rules.specs.Conversion as C
 use Rattle.core_rules.specs.Conversion.{Conv, IsEtaCon}
@@ -14,7 +14,7 @@ use Rattle.core_rules.specs.Typing.{Typing, IsCon, entry}
 use Rattle.core_rules.specs.InScope.{IsDataShape, HasShape}
 use Rattle.core_rules.specs.Derivable as D
 use Rattle.core_rules.specs.Derivable.{Derivable, Good, GoodFamily, GoodCon, IsWithin}
-use Rattle.core_rules.specs.Examples.{postulates, nat, vec, pair, zero_con, suc_con, nil_con, cons_con, pair_con, pair_fields, families, doubled}
+use Rattle.core_rules.specs.Examples.{postulates, nat, vec, pair, zero_con, suc_con, pair_con, pair_fields, families, doubled}
 use Rattle.core_rules.proofs.Signature.Growth.{derivable-extended, derivable-shape}
 
 pub derivable-empty : Derivable []

@@ -1,8 +1,8 @@
 -- Small signatures and terms, written out by hand, of which `examples` says what the rules say.
-use Rattle.std.specs.Prelude.{◌≡◌, ℕ, ◌+◌, ◌-◌, ◌^◌, Bool, true, false, List, [], ◌∷◌, Some, None, zero, suc}
+use Rattle.std.specs.Prelude.{◌≡◌, ℕ, ◌-◌, ◌^◌, true, false, List, [], ◌∷◌, Some, zero, suc}
 use Rattle.core_rules.specs.declared.Flag.TheVariants.{Explicit, Implicit}
 use Rattle.core_rules.specs.Term.{Term, Terms, Var, Sort, Pi, App, Def, Fam, Con, Proj, End, size}
-use Rattle.core_rules.specs.Signature.{Entry, ConDecl, FamDecl, Decl, Postulate, Family, Signature, fam_decl}
+use Rattle.core_rules.specs.Signature.{Entry, ConDecl, FamDecl, Postulate, Family, Signature, fam_decl}
 use Rattle.core_rules.specs.Conversion.{Conv, IsEtaCon}
 use Rattle.core_rules.specs.Typing.{entry}
 use Rattle.core_rules.specs.Derivable.{Derivable}

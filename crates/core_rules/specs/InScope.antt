@@ -12,7 +12,7 @@ con_params g k = option_and_then (λ p. option_map (λ d. length d.params) (fam_
 abbrev pub field_count : {A : Type 0} → Signature A → ℕ → ℕ
 field_count g d = option_map_or (λ d. length d.fields) (fam_decl g d) 0
 
--- any metavariable may stand at any number of arguments: where no store of them is handed in
+-- where neither metavariables nor solutions are handed in, any metavariable stands at any number of arguments
 abbrev pub any_meta : ℕ → ℕ → Type 0
 any_meta m n = Unit {0}
 
@@ -147,7 +147,33 @@ module _ (g : Signature Term) (M : ℕ → ℕ → Type 0) where
 abbrev pub SignatureInScope : Signature Term → (ℕ → ℕ → Type 0) → Type 0
 SignatureInScope g M = (i : ℕ) (d : Decl Term) → slice_get g i ≡ Some d → DeclInScope (take i g) M d
 
--- the solutions s of metavariables: the variables of each lie below the number of arguments at which its metavariable may stand
+-- the variables of t lie below n
+abbrev mutual
+  pub VarsBelow : ℕ → Term → Type 0
+  VarsBelow n (Var i) = i < n
+  VarsBelow n (Sort l) = Unit {0}
+  VarsBelow n (Pi b x a t) = VarsBelow n a × VarsBelow (n + 1) t
+  VarsBelow n (Lam b x a t) = VarsBelow n a × VarsBelow (n + 1) t
+  VarsBelow n (App b t u) = VarsBelow n t × VarsBelow n u
+  VarsBelow n (Def f) = Unit {0}
+  VarsBelow n (Fam d) = Unit {0}
+  VarsBelow n (Con k ts) = AllVarsBelow n ts
+  VarsBelow n (Proj f t) = VarsBelow n t
+  VarsBelow n (Meta m ts) = AllVarsBelow n ts
+
+  pub AllVarsBelow : ℕ → Terms → Type 0
+  AllVarsBelow n End = Unit {0}
+  AllVarsBelow n (And t ts) = VarsBelow n t × AllVarsBelow n ts
+
+-- where a store of metavariables is handed in, which has for each the number of entries of its context: a metavariable stands at so many arguments
+abbrev pub in_store : (ℕ → Option ℕ) → ℕ → ℕ → Type 0
+in_store counts m n = counts m ≡ Some n
+
+-- where only solutions s are handed in: a metavariable that is solved stands at more arguments than its solution has variables
+abbrev pub solved_at : (ℕ → Option Term) → ℕ → ℕ → Type 0
+solved_at s m n = (t : Term) → s m ≡ Some t → VarsBelow n t
+
+-- the solution of a metavariable is in scope in a context of as many entries as arguments at which the metavariable may stand
 abbrev pub SolutionsInScope : {A : Type 0} → Signature A → (ℕ → ℕ → Type 0) → (ℕ → Option Term) → Type 0
 SolutionsInScope g M s = (m n : ℕ) (t : Term) → M m n → s m ≡ Some t → InScope g M n t
 

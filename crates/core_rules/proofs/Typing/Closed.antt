@@ -1,5 +1,5 @@
 -- A change leaves a term without variables as it is, and so the declared types of a signature in scope.
-use Rattle.std.specs.Prelude.{◌≡◌, ℕ, ◌+◌, [], ◌∷◌, length, take, slice_get, Option, Some, None, option_and_then, refl, zero, suc}
+use Rattle.std.specs.Prelude.{◌≡◌, ℕ, ◌+◌, [], ◌∷◌, length, take, slice_get, Option, Some, None, option_and_then, refl, suc}
 use Rattle.std.proofs.Common.{ap, subst, arith, add-zero, add_assoc}
 use Rattle.core_rules.specs.Term.{Term, Terms, Var, Sort, Pi, Lam, App, Def, Fam, Con, Proj, Meta, End, And}
 use Rattle.core_rules.specs.Substitution.{over, over_all}
