@@ -1,5 +1,6 @@
 -- Laws of typing.
 pub mod Closed
+pub mod Scoped
 pub mod Changed
 pub mod Weakened
 pub mod Substituted

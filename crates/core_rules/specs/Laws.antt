@@ -2,14 +2,14 @@
 use Rattle.std.specs.Prelude.{◌≡◌, ℕ, ◌+◌, ◌≤◌, List, [], ◌∷◌, ◌++◌, length, map, take, drop, slice_get, Some}
 use Rattle.core_rules.specs.declared.Flag.{Flag}
 use Rattle.core_rules.specs.Term.{Term, Terms, Var, Sort, Pi, Lam, App, Def, Fam, Con, Proj, Meta, IsSameTerm, HasNoMeta}
-use Rattle.core_rules.specs.Substitution.{over, shift, subst, under, value_at}
+use Rattle.core_rules.specs.Substitution.{over, shift, shift_var, subst, under, env_var, value_at}
 use Rattle.core_rules.specs.Signature.{Entry, Context, CoreClause, Tree, FamDecl, Decl, Function, Signature, fam_decl}
 use Rattle.core_rules.specs.Mapped.{AllDecl}
-use Rattle.core_rules.specs.Elimination.{Elim, elims}
+use Rattle.core_rules.specs.Elimination.{Elim, elims, elims_over}
 use Rattle.core_rules.specs.Run.{Run}
 use Rattle.core_rules.specs.Conversion.{Conv}
 use Rattle.core_rules.specs.Typing.{Typing, Fits, entry}
-use Rattle.core_rules.specs.InScope.{HasShape, SignatureInScope, any_meta}
+use Rattle.core_rules.specs.InScope.{InScope, HasShape, SignatureInScope, any_meta}
 use Rattle.core_rules.specs.Derivable.{Good, Derivable}
 use Rattle.core_rules.specs.Inversion.{OfVariable, OfPi, OfLam, OfApp, OfDef, OfFam, OfCon, OfProj}
 
@@ -25,6 +25,12 @@ inserted (e ∷ inner) new c = entry e.flag e.name (shift e.ty (length inner) (l
 
 abbrev pub FamiliesHaveShape : Signature Term → Type 0
 FamiliesHaveShape g = (d : ℕ) (decl : FamDecl Term) → fam_decl g d ≡ Some decl → HasShape decl
+
+-- tree T gives on these eliminations a term that is convertible to t
+pub record RunsTo (g : Signature Term) (T : Tree Term) (r : List Term) (es : List Elim) (t : Term) : Type 0 where
+  pub to : Term
+  pub runs : Run g T r es to
+  pub is : Conv g to t
 
 -- the laws
 
@@ -108,6 +114,18 @@ TypingOfEnvironment = (g : Signature Term) → SignatureInScope g any_meta → (
 
 abbrev pub ShapeInScope : Type 0
 ShapeInScope = (g : Signature Term) → SignatureInScope g any_meta → FamiliesHaveShape g
+
+abbrev pub RunOfShifted : Type 0
+RunOfShifted = (g : Signature Term) (T : Tree Term) (r : List Term) (es : List Elim) (t : Term) (from by : ℕ) → Run g T r es t → Run g T (map (λ u. shift u from by) r) (elims_over (shift_var from by) 0 es) (shift t from by)
+
+abbrev pub RunOfSubstituted : Type 0
+RunOfSubstituted = (g : Signature Term) → FamiliesHaveShape g → (T : Tree Term) (s : List Term) (es : List Elim) (t : Term) → Run g T [] es t → RunsTo g T [] (elims_over (env_var s) 0 es) (under s t)
+
+abbrev pub TypedInScope : Type 0
+TypedInScope = (g : Signature Term) (c : Context Term) (t a : Term) → Typing g c t a → InScope g any_meta (length c) t
+
+abbrev pub DerivableInScope : Type 0
+DerivableInScope = (g : Signature Term) → Derivable g → SignatureInScope g any_meta
 
 abbrev pub InversionOfVariable : Type 0
 InversionOfVariable = (g : Signature Term) (c : Context Term) (i : ℕ) (a : Term) → Typing g c (Var i) a → OfVariable g c i a

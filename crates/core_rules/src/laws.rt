@@ -1,7 +1,7 @@
 //! Laws of the definitions. Each is the contract of a function that does nothing, on which a crate above, or a reader, can rest.
 //! The statements stand in `specs/Laws.antt`, under the same names.
 
-ghost use Rattle.core_rules.specs.Laws.{TraversalIdentity, TraversalComposition, TraversalExchange, ShiftAfterShift, ShiftsExchange, SubstitutionInShifted, ShiftOfSubstitution, OuterShiftOfSubstitution, SubstitutionAfterSubstitution, ShiftOfEnvironment, SubstitutionOfEnvironment, EnvironmentOfEnvironment, EnvironmentInShifted, EnvironmentInSubstituted, ChangeOfShifted, ChangeOfSubstituted, ChangeOfEnvironment, OneRun, SameTermsConvert, ConversionUnderEliminations, ConversionOfShifted, ConversionOfSubstituted, ConversionOfEnvironments, Weakening, TypingOfSubstituted, TypingOfEnvironment, ShapeInScope, InversionOfVariable, InversionOfSort, InversionOfPi, InversionOfLambda, InversionOfApplication, InversionOfDefinition, InversionOfFamily, InversionOfConstructor, InversionOfProjection, NoTypeOfMetavariable, DerivableExtended, DerivableTaken, NoFunctionDerivable};
+ghost use Rattle.core_rules.specs.Laws.{TraversalIdentity, TraversalComposition, TraversalExchange, ShiftAfterShift, ShiftsExchange, SubstitutionInShifted, ShiftOfSubstitution, OuterShiftOfSubstitution, SubstitutionAfterSubstitution, ShiftOfEnvironment, SubstitutionOfEnvironment, EnvironmentOfEnvironment, EnvironmentInShifted, EnvironmentInSubstituted, ChangeOfShifted, ChangeOfSubstituted, ChangeOfEnvironment, OneRun, SameTermsConvert, ConversionUnderEliminations, ConversionOfShifted, ConversionOfSubstituted, ConversionOfEnvironments, Weakening, TypingOfSubstituted, TypingOfEnvironment, ShapeInScope, RunOfShifted, RunOfSubstituted, TypedInScope, DerivableInScope, InversionOfVariable, InversionOfSort, InversionOfPi, InversionOfLambda, InversionOfApplication, InversionOfDefinition, InversionOfFamily, InversionOfConstructor, InversionOfProjection, NoTypeOfMetavariable, DerivableExtended, DerivableTaken, NoFunctionDerivable};
 
 /// A change that leaves each variable as it is leaves each term as it is.
 pub fn traversal_identity()
@@ -136,6 +136,26 @@ pub fn typing_of_environment()
 /// Each family of a signature in scope has its shape.
 pub fn shape_in_scope()
     ensures { ShapeInScope }
+{}
+
+/// A tree runs in a shifted environment on shifted eliminations to the shifted term.
+pub fn run_of_shifted()
+    ensures { RunOfShifted }
+{}
+
+/// A tree runs on eliminations under an environment to a term that is convertible to the old one under it.
+pub fn run_of_substituted()
+    ensures { RunOfSubstituted }
+{}
+
+/// A typed term is in scope.
+pub fn typed_in_scope()
+    ensures { TypedInScope }
+{}
+
+/// A derivable signature is in scope.
+pub fn derivable_in_scope()
+    ensures { DerivableInScope }
 {}
 
 /// The type of a variable is convertible to its entry's, shifted.

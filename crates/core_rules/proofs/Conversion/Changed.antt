@@ -10,7 +10,7 @@ use Rattle.core_rules.specs.Elimination.{Elim, Arg, Field, elims, args, projecti
 use Rattle.core_rules.specs.Run.{Run}
 use Rattle.core_rules.specs.Conversion as C
 use Rattle.core_rules.specs.Conversion.{Conv, ConvAll, IsArgument, IsEtaCon}
-use Rattle.core_rules.specs.Laws.{IsLifted}
+use Rattle.core_rules.specs.Laws.{IsLifted, RunsTo}
 use Rattle.core_rules.proofs.Substitution.Lifted.{over-subst, over-shift}
 use Rattle.core_rules.proofs.Spines.{over-elims, args-over, projections-over}
 use Rattle.core_rules.proofs.Run.Constructors.{full_con-over, con_over}
@@ -22,12 +22,6 @@ conv-elims (Field f ∷ es) h = conv-elims es (C.proj h)
 
 pub conv_by : {g : Signature Term} {t u : Term} → t ≡ u → Conv g t u
 conv_by {g = g} {t = t} e = subst (λ u. Conv g t u) e C.same
-
--- the tree gives on these eliminations a term that is convertible to t
-pub record RunsTo (g : Signature Term) (T : Tree Term) (r : List Term) (es : List Elim) (t : Term) : Type 0 where
-  pub to : Term
-  pub runs : Run g T r es to
-  pub is : Conv g to t
 
 module _ (f : ℕ → ℕ → Term) (l : IsLifted f) where
   pub over-beta : (d : ℕ) (t u : Term) → over f d (put t 0 u) ≡ put (over f (d + 1) t) 0 (over f d u)

@@ -11,11 +11,11 @@ use Rattle.core_rules.specs.Run as R
 use Rattle.core_rules.specs.Run.{Run, ConApp, takes, is_record_con, full_con, parts, spread, kept}
 use Rattle.core_rules.specs.Conversion as C
 use Rattle.core_rules.specs.Conversion.{Conv, IsArgument}
-use Rattle.core_rules.specs.Laws.{IsLifted, FamiliesHaveShape}
+use Rattle.core_rules.specs.Laws.{IsLifted, FamiliesHaveShape, RunsTo}
 use Rattle.core_rules.proofs.Substitution.Lifted.{over-under}
 use Rattle.core_rules.proofs.Spines.{over-elims}
 use Rattle.core_rules.proofs.Run.Constructors.{full_con-over, con_over}
-use Rattle.core_rules.proofs.Conversion.Changed.{conv-elims, conv_by, RunsTo}
+use Rattle.core_rules.proofs.Conversion.Changed.{conv-elims, conv_by}
 use Rattle.core_rules.proofs.Conversion.Shifted.{ConvEnv, conv-under}
 use Rattle.core_rules.proofs.Conversion.Shifted as W
 use Rattle.core_rules.proofs.Run.Records.{record_term, argument}
