@@ -121,6 +121,9 @@ pub record HasShape {A : Type 0} (d : FamDecl A) : Type 0 where
   pub of_data : d.is_record ≡ false → IsDataShape d
   pub of_record : d.is_record ≡ true → IsRecordShape d
 
+abbrev pub FamiliesHaveShape : {A : Type 0} → Signature A → Type 0
+FamiliesHaveShape {A} g = (d : ℕ) (decl : FamDecl A) → fam_decl g d ≡ Some decl → HasShape decl
+
 module _ (g : Signature Term) (M : ℕ → ℕ → Type 0) where
   -- under n parameters
   pub record ConInScope (n : ℕ) (c : ConDecl Term) : Type 0 where

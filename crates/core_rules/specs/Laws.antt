@@ -9,7 +9,7 @@ use Rattle.core_rules.specs.Elimination.{Elim, elims, elims_over}
 use Rattle.core_rules.specs.Run.{Run}
 use Rattle.core_rules.specs.Conversion.{Conv}
 use Rattle.core_rules.specs.Typing.{Typing, Fits, entry}
-use Rattle.core_rules.specs.InScope.{InScope, HasShape, SignatureInScope, any_meta}
+use Rattle.core_rules.specs.InScope.{InScope, FamiliesHaveShape, SignatureInScope, any_meta}
 use Rattle.core_rules.specs.Derivable.{Good, Derivable}
 use Rattle.core_rules.specs.Inversion.{OfVariable, OfPi, OfLam, OfApp, OfDef, OfFam, OfCon, OfProj}
 
@@ -22,9 +22,6 @@ pub record IsLifted (f : ℕ → ℕ → Term) : Type 0 where
 abbrev pub inserted : Context Term → Context Term → Context Term → Context Term
 inserted [] new c = new ++ c
 inserted (e ∷ inner) new c = entry e.flag e.name (shift e.ty (length inner) (length new)) ∷ inserted inner new c
-
-abbrev pub FamiliesHaveShape : Signature Term → Type 0
-FamiliesHaveShape g = (d : ℕ) (decl : FamDecl Term) → fam_decl g d ≡ Some decl → HasShape decl
 
 -- tree T gives on these eliminations a term that is convertible to t
 pub record RunsTo (g : Signature Term) (T : Tree Term) (r : List Term) (es : List Elim) (t : Term) : Type 0 where

@@ -8,8 +8,7 @@ use Rattle.core_rules.specs.Term.{Term}
 use Rattle.core_rules.specs.Signature.{Signature, FamDecl, ConDecl, fam_decl, fams, con_place, con_decl, fields_of}
 use Rattle.core_rules.specs.Run.{ConApp, con_app, takes, is_record_con, full_con}
 use Rattle.core_rules.specs.Conversion.{IsArgument}
-use Rattle.core_rules.specs.InScope.{IsRecordShape}
-use Rattle.core_rules.specs.Laws.{FamiliesHaveShape}
+use Rattle.core_rules.specs.InScope.{IsRecordShape, FamiliesHaveShape}
 use Rattle.core_rules.proofs.Signature.Places.{field-place, length-fields_of}
 
 -- the value of an option, with what a test or a function says of it

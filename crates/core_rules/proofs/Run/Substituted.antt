@@ -11,7 +11,8 @@ use Rattle.core_rules.specs.Run as R
 use Rattle.core_rules.specs.Run.{Run, ConApp, takes, is_record_con, full_con, parts, spread, kept}
 use Rattle.core_rules.specs.Conversion as C
 use Rattle.core_rules.specs.Conversion.{Conv, IsArgument}
-use Rattle.core_rules.specs.Laws.{IsLifted, FamiliesHaveShape, RunsTo}
+use Rattle.core_rules.specs.Laws.{IsLifted, RunsTo}
+use Rattle.core_rules.specs.InScope.{FamiliesHaveShape}
 use Rattle.core_rules.proofs.Substitution.Lifted.{over-under}
 use Rattle.core_rules.proofs.Spines.{over-elims}
 use Rattle.core_rules.proofs.Run.Constructors.{full_con-over, con_over}

@@ -5,8 +5,8 @@ use Rattle.core_rules.specs.Term.{Term, Terms, Var, Sort, Pi, Lam, App, Def, Fam
 use Rattle.core_rules.specs.Substitution.{over, over_all}
 use Rattle.core_rules.specs.Signature.{Telescope, Signature, Decl, Postulate, Family, Open, Function, FamDecl, defs, decl_type, def_type, fam_decl}
 use Rattle.core_rules.specs.Elimination.{pi_over, fam_type}
-use Rattle.core_rules.specs.InScope.{InScope, AllInScope, TelescopeInScope, DeclInScope, FamilyInScope, SignatureInScope, any_meta}
-use Rattle.core_rules.specs.Laws.{IsLifted, FamiliesHaveShape}
+use Rattle.core_rules.specs.InScope.{InScope, AllInScope, TelescopeInScope, DeclInScope, FamilyInScope, SignatureInScope, any_meta, FamiliesHaveShape}
+use Rattle.core_rules.specs.Laws.{IsLifted}
 use Rattle.core_rules.proofs.Signature.Places.{def_stands, fam_stands}
 use Rattle.core_rules.proofs.Substitution.Lifted.{own_variable}
 

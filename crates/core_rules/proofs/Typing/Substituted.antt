@@ -9,8 +9,8 @@ use Rattle.core_rules.specs.Conversion as C
 use Rattle.core_rules.specs.Conversion.{Conv}
 use Rattle.core_rules.specs.Typing as T
 use Rattle.core_rules.specs.Typing.{Typing, Fits, entry}
-use Rattle.core_rules.specs.InScope.{SignatureInScope}
-use Rattle.core_rules.specs.Laws.{IsLifted, FamiliesHaveShape}
+use Rattle.core_rules.specs.InScope.{SignatureInScope, FamiliesHaveShape}
+use Rattle.core_rules.specs.Laws.{IsLifted}
 use Rattle.core_rules.proofs.Substitution.Lifted.{over-shift, shift_twice, shift_none, subst_shifted}
 use Rattle.core_rules.proofs.Substitution.Changes.{subst_lifted, env_lifted}
 use Rattle.core_rules.proofs.Substitution.Exchange.{under-shift}
