@@ -2,5 +2,5 @@
 pub mod Constructors
 pub mod Renamed
 pub mod Records
-pub mod Substituted
+pub mod Moved
 pub mod Once

@@ -1,3 +1,4 @@
 -- Laws of signatures.
 pub mod Places
 pub mod Growth
+pub mod Known

@@ -17,14 +17,13 @@ use Rattle.core_rules.proofs.Substitution.Exchange.{under-shift}
 use Rattle.core_rules.proofs.Typing.Closed.{def-closed, fam-closed, closed-over}
 use Rattle.core_rules.proofs.Conversion.Changed.{conv-over}
 use Rattle.core_rules.proofs.Conversion.Shifted.{conv-subst_by}
-use Rattle.core_rules.proofs.Run.Substituted.{run-moved}
-use Rattle.core_rules.proofs.Run.Substituted as S
+use Rattle.core_rules.proofs.Run.Moved.{run-changed}
 use Rattle.core_rules.proofs.Typing.Changed.{typing-over}
 use Rattle.core_rules.proofs.Typing.Weakened.{typing-inserted}
 
 module _ (g : Signature Term) (shapes : FamiliesHaveShape g) where
   pub conv-change : (f : ℕ → ℕ → Term) → IsLifted f → (d : ℕ) (t u : Term) → Conv g t u → Conv g (over f d t) (over f d u)
-  conv-change f l d t u h = conv-over f l g (λ d T es u k. run-moved g shapes f l d k S.none) d h
+  conv-change f l d t u h = conv-over f l g (λ d T es u k. run-changed g shapes f l d T es u k) d h
 
   -- substitution in convertible terms
   pub conv-subst : (at : ℕ) (t t' u u' : Term) → Conv g t t' → Conv g u u' → Conv g (put t at u) (put t' at u')
