@@ -10,7 +10,7 @@ use Rattle.core_rules.specs.Elimination.{projections}
 use Rattle.core_rules.specs.Run.{ConApp, con_app, takes, is_record_con, full_con}
 use Rattle.core_rules.specs.Conversion.{IsEtaCon, IsArgument}
 use Rattle.core_rules.specs.Typing.{IsCon, IsField}
-use Rattle.core_rules.proofs.Run.Records.{passes, goes_on, test_passed}
+use Rattle.core_rules.proofs.Run.Records.{IsValue, passes, goes_on, test_passed, full-takes}
 
 pub get_left : {X : Type 0} (xs ys : List X) (i : ℕ) (x : X) → slice_get xs i ≡ Some x → slice_get (xs ++ ys) i ≡ Some x
 get_left [] ys i x h = absurd cc
@@ -41,6 +41,11 @@ places-append b (n ∷ ns) ms =
     let p : b + 1 + length ns ≡ b + suc (length ns) = omega arith in
     let here : List (ℕ × ℕ) = map (λ i. (b, i)) (numbers 0 n) in
     ap (λ l. here ++ l) (places-append (b + 1) ns ms ∙ ap (λ k. places (b + 1) ns ++ places k ms) p) ∙ append_one_more here (places (b + 1) ns) (places (b + suc (length ns)) ms)
+
+found : {X : Type 0} (xs : List X) (n : ℕ) → n < length xs → IsValue (slice_get xs n) (λ x. Unit {0})
+found [] n b = absurd (omega arith)
+found (x ∷ xs) zero b = record { value = x; is = refl; holds = tt }
+found (x ∷ xs) (suc n) b = found xs n (omega arith)
 
 module _ (g h : Signature Term) where
   pub fam-known : (n : ℕ) (d : FamDecl Term) → fam_decl g n ≡ Some d → fam_decl (g ++ h) n ≡ Some d
@@ -79,3 +84,41 @@ module _ (g h : Signature Term) where
 
   pub projections-known : (n : ℕ) (t : Term) → n < length (fams g) → projections (g ++ h) n t ≡ projections g n t
   projections-known n t b = ap (map (λ k. Proj k t)) (fields-known n b)
+
+  takes-known : (k n : ℕ) → takes g k n ≡ true → takes (g ++ h) k n ≡ true
+  takes-known k n e = let v = passes (λ c. eqb (length c.args) n) (con_decl g k) e in rw (con-known k v.value v.is) v.holds
+
+  all_known : (s c : ConApp) → cond (takes g s.con (length s.args)) (Some s) None ≡ Some c → cond (takes (g ++ h) s.con (length s.args)) (Some s) None ≡ Some c
+  all_known s c e = rw (takes-known s.con (length s.args) (test_passed (takes g s.con (length s.args)) s c e).0) (ap Some (test_passed (takes g s.con (length s.args)) s c e).1)
+
+  pub full-known : (t : Term) (c : ConApp) → full_con g t ≡ Some c → full_con (g ++ h) t ≡ Some c
+  full-known t c e =
+    let v = goes_on (λ s. cond (takes g s.con (length s.args)) (Some s) None) (con_app t []) c e in
+    rw v.is (all_known v.value c v.holds)
+
+  -- a constructor that g knows
+  placed : (t : Term) (c : ConApp) → full_con g t ≡ Some c → IsValue (con_place g c.con) (λ p. Unit {0})
+  placed t c e =
+    let v = passes (λ k. eqb (length k.args) (length c.args)) (con_decl g c.con) (full-takes g t c e) in
+    let p = goes_on (λ p. option_and_then (λ d. slice_get d.cons p.1) (fam_decl g p.0)) (con_place g c.con) v.value v.is in
+    record { value = p.value; is = p.is; holds = tt }
+
+  pub record-known : (n : ℕ) (t : Term) (c : ConApp) → n < length (fams g) → full_con g t ≡ Some c → is_record_con (g ++ h) c.con n ≡ is_record_con g c.con n
+  record-known n t c b e =
+    let p = placed t c e in
+    let d = found (fams g) n b in
+    rw (con-place-known c.con p.value p.is, fam-known n d.value d.is, p.is, d.is) refl
+
+  pub eta-known : (k d : ℕ) → IsEtaCon g k d → IsEtaCon (g ++ h) k d
+  eta-known k d is = record { decl = is.decl; con = is.con; is_decl = fam-known d is.decl is.is_decl; is_con = con-known k is.con is.is_con; place = con-place-known k (d, 0) is.place; eta = is.eta }
+
+  pub argument-known : (f : ℕ) (t u : Term) → IsArgument g f t u → IsArgument (g ++ h) f t u
+  argument-known f t u is = record {
+    fam = is.fam; at = is.at; con = is.con; place = field-place-known f (is.fam, is.at) is.place; full = full-known t is.con is.full;
+    own = con-place-known is.con.con (is.fam, 0) is.own; is = is.is }
+
+  pub is_con-known : (k : ℕ) → IsCon g k → IsCon (g ++ h) k
+  is_con-known k is = record { fam = is.fam; at = is.at; decl = is.decl; con = is.con; place = con-place-known k (is.fam, is.at) is.place; is_decl = fam-known is.fam is.decl is.is_decl; is_con = is.is_con }
+
+  pub is_field-known : (f : ℕ) → IsField g f → IsField (g ++ h) f
+  is_field-known f is = record { fam = is.fam; at = is.at; decl = is.decl; entry = is.entry; place = field-place-known f (is.fam, is.at) is.place; is_decl = fam-known is.fam is.decl is.is_decl; is_entry = is.is_entry }
