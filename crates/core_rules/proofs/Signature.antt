@@ -2,3 +2,4 @@
 pub mod Places
 pub mod Growth
 pub mod Known
+pub mod Grown

@@ -3,7 +3,7 @@ use Rattle.std.specs.Prelude.{◌≡◌, ℕ, ◌+◌, ◌≤◌, List, [], ◌�
 use Rattle.core_rules.specs.declared.Flag.{Flag}
 use Rattle.core_rules.specs.Term.{Term, Terms, Var, Sort, Pi, Lam, App, Def, Fam, Con, Proj, Meta, IsSameTerm, HasNoMeta}
 use Rattle.core_rules.specs.Substitution.{over, shift, shift_var, subst, under, env_var, value_at}
-use Rattle.core_rules.specs.Signature.{Entry, Context, CoreClause, Tree, FamDecl, Decl, Function, Signature, fam_decl}
+use Rattle.core_rules.specs.Signature.{Entry, Context, CoreClause, Tree, Decl, Function, Signature}
 use Rattle.core_rules.specs.Mapped.{AllDecl}
 use Rattle.core_rules.specs.Elimination.{Elim, elims, elims_over}
 use Rattle.core_rules.specs.Run.{Run}
@@ -153,6 +153,12 @@ InversionOfProjection = (g : Signature Term) (c : Context Term) (f : ℕ) (t a :
 
 abbrev pub NoTypeOfMetavariable : Type 0
 NoTypeOfMetavariable = (g : Signature Term) (c : Context Term) (m : ℕ) (ts : Terms) (a : Term) → Typing g c (Meta m ts) a → ⊥
+
+abbrev pub ConversionGrows : Type 0
+ConversionGrows = (g h : Signature Term) → SignatureInScope g any_meta → FamiliesHaveShape (g ++ h) → (t u : Term) → Conv g t u → Conv (g ++ h) t u
+
+abbrev pub TypingGrows : Type 0
+TypingGrows = (g h : Signature Term) → SignatureInScope g any_meta → FamiliesHaveShape (g ++ h) → (c : Context Term) (t a : Term) → Typing g c t a → Typing (g ++ h) c t a
 
 abbrev pub DerivableExtended : Type 0
 DerivableExtended = (g : Signature Term) (d : Decl Term) → Derivable g → Good g d → AllDecl HasNoMeta d → Derivable (g ++ d ∷ [])

@@ -1,11 +1,9 @@
 -- What an id names in a signature it names in one that goes on from it.
-use Rattle.std.specs.Prelude.{◌≡◌, ℕ, ◌+◌, ◌<◌, Bool, true, false, ◌&&◌, eqb, cond, List, [], ◌∷◌, ◌++◌, length, map, sum, take, get_or, slice_get, Option, Some, None, option_map, option_and_then, refl, zero, suc}
-use Rattle.std.specs.Option.{option_map_or}
-use Rattle.std.proofs.Common.{ap, sym, ◌∙◌, subst, arith, add-zero, zero-add}
+use Rattle.std.specs.Prelude.{◌≡◌, ℕ, ◌+◌, ◌<◌, true, eqb, cond, List, [], ◌∷◌, ◌++◌, length, map, sum, slice_get, Some, None, option_and_then, refl, zero, suc}
+use Rattle.std.proofs.Common.{ap, ◌∙◌, arith, add-zero}
 use Rattle.std.proofs.lemmas.List.{map-append, length-map, take-append-le, get_or_append_left}
-use Rattle.std.proofs.lemmas.Option.{slice_get_within}
 use Rattle.core_rules.specs.Term.{Term, Proj}
-use Rattle.core_rules.specs.Signature.{Signature, Decl, Postulate, Family, Open, Function, FamDecl, ConDecl, Tree, defs, fams, decl_type, decl_tree, def_type, tree_of, fam_decl, places, con_counts, field_counts, con_place, field_place, con_decl, fields_of, ids_of, numbers}
+use Rattle.core_rules.specs.Signature.{Signature, Decl, Postulate, Family, Open, Function, FamDecl, ConDecl, Tree, defs, fams, decl_type, decl_tree, def_type, tree_of, fam_decl, places, con_place, field_place, con_decl, fields_of, numbers}
 use Rattle.core_rules.specs.Elimination.{projections}
 use Rattle.core_rules.specs.Run.{ConApp, con_app, takes, is_record_con, full_con}
 use Rattle.core_rules.specs.Conversion.{IsEtaCon, IsArgument}
@@ -93,32 +91,38 @@ module _ (g h : Signature Term) where
 
   pub full-known : (t : Term) (c : ConApp) → full_con g t ≡ Some c → full_con (g ++ h) t ≡ Some c
   full-known t c e =
-    let v = goes_on (λ s. cond (takes g s.con (length s.args)) (Some s) None) (con_app t []) c e in
-    rw v.is (all_known v.value c v.holds)
+      let v = goes_on (λ s. cond (takes g s.con (length s.args)) (Some s) None) (con_app t []) c e in
+      rw v.is (all_known v.value c v.holds)
 
   -- a constructor that g knows
   placed : (t : Term) (c : ConApp) → full_con g t ≡ Some c → IsValue (con_place g c.con) (λ p. Unit {0})
   placed t c e =
-    let v = passes (λ k. eqb (length k.args) (length c.args)) (con_decl g c.con) (full-takes g t c e) in
-    let p = goes_on (λ p. option_and_then (λ d. slice_get d.cons p.1) (fam_decl g p.0)) (con_place g c.con) v.value v.is in
-    record { value = p.value; is = p.is; holds = tt }
+      let v = passes (λ k. eqb (length k.args) (length c.args)) (con_decl g c.con) (full-takes g t c e) in
+      let p = goes_on (λ p. option_and_then (λ d. slice_get d.cons p.1) (fam_decl g p.0)) (con_place g c.con) v.value v.is in
+      record { value = p.value; is = p.is; holds = tt }
 
   pub record-known : (n : ℕ) (t : Term) (c : ConApp) → n < length (fams g) → full_con g t ≡ Some c → is_record_con (g ++ h) c.con n ≡ is_record_con g c.con n
   record-known n t c b e =
-    let p = placed t c e in
-    let d = found (fams g) n b in
-    rw (con-place-known c.con p.value p.is, fam-known n d.value d.is, p.is, d.is) refl
+      let p = placed t c e in
+      let d = found (fams g) n b in
+      rw (con-place-known c.con p.value p.is, fam-known n d.value d.is, p.is, d.is) refl
 
-  pub eta-known : (k d : ℕ) → IsEtaCon g k d → IsEtaCon (g ++ h) k d
+  abbrev pub eta-known : (k d : ℕ) → IsEtaCon g k d → IsEtaCon (g ++ h) k d
   eta-known k d is = record { decl = is.decl; con = is.con; is_decl = fam-known d is.decl is.is_decl; is_con = con-known k is.con is.is_con; place = con-place-known k (d, 0) is.place; eta = is.eta }
 
   pub argument-known : (f : ℕ) (t u : Term) → IsArgument g f t u → IsArgument (g ++ h) f t u
   argument-known f t u is = record {
-    fam = is.fam; at = is.at; con = is.con; place = field-place-known f (is.fam, is.at) is.place; full = full-known t is.con is.full;
-    own = con-place-known is.con.con (is.fam, 0) is.own; is = is.is }
+    fam = is.fam;
+    at = is.at;
+    con = is.con;
+    place = field-place-known f (is.fam, is.at) is.place;
+    full = full-known t is.con is.full;
+    own = con-place-known is.con.con (is.fam, 0) is.own;
+    is = is.is;
+  }
 
-  pub is_con-known : (k : ℕ) → IsCon g k → IsCon (g ++ h) k
+  abbrev pub is_con-known : (k : ℕ) → IsCon g k → IsCon (g ++ h) k
   is_con-known k is = record { fam = is.fam; at = is.at; decl = is.decl; con = is.con; place = con-place-known k (is.fam, is.at) is.place; is_decl = fam-known is.fam is.decl is.is_decl; is_con = is.is_con }
 
-  pub is_field-known : (f : ℕ) → IsField g f → IsField (g ++ h) f
+  abbrev pub is_field-known : (f : ℕ) → IsField g f → IsField (g ++ h) f
   is_field-known f is = record { fam = is.fam; at = is.at; decl = is.decl; entry = is.entry; place = field-place-known f (is.fam, is.at) is.place; is_decl = fam-known is.fam is.decl is.is_decl; is_entry = is.is_entry }
