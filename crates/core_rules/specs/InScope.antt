@@ -3,7 +3,7 @@ use Rattle.std.specs.Prelude.{◌≡◌, ℕ, ◌+◌, ◌-◌, ◌<◌, true, f
 use Rattle.std.specs.Option.{option_map_or}
 use Rattle.std.specs.List.{AllByRecursion}
 use Rattle.core_rules.specs.Term.{Term, Terms, Var, Sort, Pi, Lam, App, Def, Fam, Con, Proj, Meta, End, And, to_list, AllMetas}
-use Rattle.core_rules.specs.Signature.{Telescope, CorePat, PatShape, CorePats, Pat, VarPat, SolvedPat, DottedPat, ConPat, AbsurdPat, ProjectionPat, NoPat, AndPat, CheckedLeft, CoreClause, Branch, Tree, CoBranches, ConBranches, Leaf, Intro, Cosplit, Split, RecordSplit, Absurd, NoField, OnField, NoCon, Refuted, Goes, ConDecl, FamDecl, Decl, Postulate, Family, Open, Function, Signature, defs, fams, con_counts, field_counts, con_place, fam_decl, without_cons}
+use Rattle.core_rules.specs.Signature.{Telescope, CorePat, PatShape, CorePats, Pat, VarPat, SolvedPat, DottedPat, ConPat, AbsurdPat, ProjectionPat, NoPat, AndPat, CheckedLeft, CoreClause, Branch, Tree, CoBranches, ConBranches, Leaf, Intro, Cosplit, Split, RecordSplit, Absurd, NoField, OnField, NoCon, Refuted, Goes, ConDecl, FamDecl, Decl, Postulate, Family, Open, Function, Signature, defs, fams, con_counts, field_counts, con_place, con_decl, fam_decl, without_cons}
 
 -- the number of parameters of a constructor's family
 abbrev pub con_params : {A : Type 0} → Signature A → ℕ → Option ℕ
@@ -11,6 +11,10 @@ con_params g k = option_and_then (λ p. option_map (λ d. length d.params) (fam_
 
 abbrev pub field_count : {A : Type 0} → Signature A → ℕ → ℕ
 field_count g d = option_map_or (λ d. length d.fields) (fam_decl g d) 0
+
+-- the number of arguments of a constructor
+abbrev pub arg_count : {A : Type 0} → Signature A → ℕ → ℕ
+arg_count g k = option_map_or (λ c. length c.args) (con_decl g k) 0
 
 -- where neither metavariables nor solutions are handed in, any metavariable stands at any number of arguments
 abbrev pub any_meta : ℕ → ℕ → Type 0
@@ -72,17 +76,11 @@ module _ {A : Type 0} (g : Signature A) (M : ℕ → ℕ → Type 0) where
     pub left : LeftInScope q.left
     pub right : RightInScope (length q.left.context) q.right
 
-  -- the branch of a constructor's context of n entries
+  -- where the constructor's context has n entries
   pub record BranchInScope (n : ℕ) (b : Branch Term) : Type 0 where
     pub context : TelescopeInScope 0 b.context
-    pub as_many : length b.values ≡ n
     pub values : AllByRecursion (λ t. InScope (length b.context) t) b.values
-    pub kept : length b.keep ≡ length b.context
     pub keep : AllByRecursion (λ i. i < n) b.keep
-
-  -- of each constructor k, so many arguments
-  abbrev pub arguments : ℕ → ℕ
-  arguments k = option_map_or (λ p. option_map_or (λ d. option_map_or (λ c. length c.args) (slice_get d.cons p.1) 0) (fam_decl g p.0) 0) (con_place g k) 0
 
   abbrev mutual
     pub TreeInScope : ℕ → Tree Term → Type 0
@@ -100,7 +98,7 @@ module _ {A : Type 0} (g : Signature A) (M : ℕ → ℕ → Type 0) where
     pub ConBranchesInScope : ℕ → ConBranches Term → Type 0
     ConBranchesInScope n NoCon = Unit {0}
     ConBranchesInScope n (Refuted k bs) = (k < sum (con_counts g)) × ConBranchesInScope n bs
-    ConBranchesInScope n (Goes k b T bs) = (k < sum (con_counts g)) × BranchInScope (n + arguments k - 1) b × TreeInScope (length b.context) T × ConBranchesInScope n bs
+    ConBranchesInScope n (Goes k b T bs) = (k < sum (con_counts g)) × BranchInScope (n + arg_count g k - 1) b × TreeInScope (length b.context) T × ConBranchesInScope n bs
 
 -- a data type has no fields, no eta, and is not coinductive
 pub record IsDataShape {A : Type 0} (d : FamDecl A) : Type 0 where
