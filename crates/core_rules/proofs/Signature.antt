@@ -3,3 +3,4 @@ pub mod Places
 pub mod Growth
 pub mod Known
 pub mod Grown
+pub mod Closing

@@ -3,7 +3,7 @@ use Rattle.std.specs.Prelude.{◌≡◌, ℕ, ◌+◌, ◌≤◌, List, [], ◌�
 use Rattle.core_rules.specs.declared.Flag.{Flag}
 use Rattle.core_rules.specs.Term.{Term, Terms, Var, Sort, Pi, Lam, App, Def, Fam, Con, Proj, Meta, IsSameTerm, HasNoMeta}
 use Rattle.core_rules.specs.Substitution.{over, shift, shift_var, subst, under, env_var, value_at}
-use Rattle.core_rules.specs.Signature.{Entry, Context, CoreClause, Tree, Decl, Function, Signature}
+use Rattle.core_rules.specs.Signature.{Entry, Context, CoreClause, Tree, Decl, Open, Function, Signature}
 use Rattle.core_rules.specs.Mapped.{AllDecl}
 use Rattle.core_rules.specs.Elimination.{Elim, elims, elims_over}
 use Rattle.core_rules.specs.Run.{Run}
@@ -159,6 +159,12 @@ ConversionGrows = (g h : Signature Term) → SignatureInScope g any_meta → Fam
 
 abbrev pub TypingGrows : Type 0
 TypingGrows = (g h : Signature Term) → SignatureInScope g any_meta → FamiliesHaveShape (g ++ h) → (c : Context Term) (t a : Term) → Typing g c t a → Typing (g ++ h) c t a
+
+abbrev pub ConversionOfClosed : Type 0
+ConversionOfClosed = (g : Signature Term) (x : ℕ) (a : Term) (qs : List (CoreClause Term)) (T : Tree Term) (t u : Term) → Conv (g ++ Open x a ∷ []) t u → Conv (g ++ Function x a qs T ∷ []) t u
+
+abbrev pub TypingOfClosed : Type 0
+TypingOfClosed = (g : Signature Term) (x : ℕ) (a : Term) (qs : List (CoreClause Term)) (T : Tree Term) (c : Context Term) (t b : Term) → Typing (g ++ Open x a ∷ []) c t b → Typing (g ++ Function x a qs T ∷ []) c t b
 
 abbrev pub DerivableExtended : Type 0
 DerivableExtended = (g : Signature Term) (d : Decl Term) → Derivable g → Good g d → AllDecl HasNoMeta d → Derivable (g ++ d ∷ [])

@@ -1,7 +1,7 @@
 //! Laws of the definitions. Each is the contract of a function that does nothing, on which a crate above, or a reader, can rest.
 //! The statements stand in `specs/Laws.antt`, under the same names.
 
-ghost use Rattle.core_rules.specs.Laws.{TraversalIdentity, TraversalComposition, TraversalExchange, ShiftAfterShift, ShiftsExchange, SubstitutionInShifted, ShiftOfSubstitution, OuterShiftOfSubstitution, SubstitutionAfterSubstitution, ShiftOfEnvironment, SubstitutionOfEnvironment, EnvironmentOfEnvironment, EnvironmentInShifted, EnvironmentInSubstituted, ChangeOfShifted, ChangeOfSubstituted, ChangeOfEnvironment, OneRun, SameTermsConvert, ConversionUnderEliminations, ConversionOfShifted, ConversionOfSubstituted, ConversionOfEnvironments, Weakening, TypingOfSubstituted, TypingOfEnvironment, ShapeInScope, RunOfShifted, RunOfSubstituted, TypedInScope, DerivableInScope, InversionOfVariable, InversionOfSort, InversionOfPi, InversionOfLambda, InversionOfApplication, InversionOfDefinition, InversionOfFamily, InversionOfConstructor, InversionOfProjection, NoTypeOfMetavariable, ConversionGrows, TypingGrows, DerivableExtended, DerivableTaken, NoFunctionDerivable};
+ghost use Rattle.core_rules.specs.Laws.{TraversalIdentity, TraversalComposition, TraversalExchange, ShiftAfterShift, ShiftsExchange, SubstitutionInShifted, ShiftOfSubstitution, OuterShiftOfSubstitution, SubstitutionAfterSubstitution, ShiftOfEnvironment, SubstitutionOfEnvironment, EnvironmentOfEnvironment, EnvironmentInShifted, EnvironmentInSubstituted, ChangeOfShifted, ChangeOfSubstituted, ChangeOfEnvironment, OneRun, SameTermsConvert, ConversionUnderEliminations, ConversionOfShifted, ConversionOfSubstituted, ConversionOfEnvironments, Weakening, TypingOfSubstituted, TypingOfEnvironment, ShapeInScope, RunOfShifted, RunOfSubstituted, TypedInScope, DerivableInScope, InversionOfVariable, InversionOfSort, InversionOfPi, InversionOfLambda, InversionOfApplication, InversionOfDefinition, InversionOfFamily, InversionOfConstructor, InversionOfProjection, NoTypeOfMetavariable, ConversionGrows, TypingGrows, ConversionOfClosed, TypingOfClosed, DerivableExtended, DerivableTaken, NoFunctionDerivable};
 
 /// A change that leaves each variable as it is leaves each term as it is.
 pub fn traversal_identity()
@@ -216,6 +216,16 @@ pub fn conversion_grows()
 /// Typing is kept as a signature goes on.
 pub fn typing_grows()
     ensures { TypingGrows }
+{}
+
+/// Conversion is kept where the last function gets its clauses and tree.
+pub fn conversion_of_closed()
+    ensures { ConversionOfClosed }
+{}
+
+/// Typing is kept where the last function gets its clauses and tree.
+pub fn typing_of_closed()
+    ensures { TypingOfClosed }
 {}
 
 /// A derivable signature with a further declaration that is good over it is derivable.

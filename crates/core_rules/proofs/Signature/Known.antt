@@ -15,7 +15,7 @@ get_left [] ys i x h = absurd cc
 get_left (y ∷ xs) ys zero x h = h
 get_left (y ∷ xs) ys (suc i) x h = get_left xs ys i x h
 
-defs-append : (g h : Signature Term) → defs (g ++ h) ≡ defs g ++ defs h
+pub defs-append : (g h : Signature Term) → defs (g ++ h) ≡ defs g ++ defs h
 defs-append [] h = refl
 defs-append (Postulate x a ∷ g) h = ap (λ ds. Postulate x a ∷ ds) (defs-append g h)
 defs-append (Family d ∷ g) h = defs-append g h
