@@ -4,17 +4,20 @@ use Rattle.std.specs.List.{AllByRecursion}
 use Rattle.std.proofs.Common.{ap, sym, ◌∙◌, subst, arith}
 use Rattle.std.proofs.lemmas.Grind.{common_steps}
 use Rattle.core_rules.specs.declared.Flag.TheVariants.{Explicit, Implicit}
-use Rattle.core_rules.specs.Term.{Term, Terms, Var, Sort, Pi, App, Def, Fam, Con, Proj, End, HasNoMeta, size}
+use Rattle.core_rules.specs.Term.{Term, Terms, Var, Sort, Pi, App, Def, Fam, Con, Proj, End, HasNoMeta, size, And}
 use Rattle.core_rules.specs.Signature.{Postulate, Family, Signature, FamDecl, Context, fam_decl, without_cons}
 use Rattle.core_rules.specs.Mapped.{AllDecl}
 use Rattle.core_rules.specs.Conversion as C
 use Rattle.core_rules.specs.Conversion.{Conv, IsEtaCon}
 use Rattle.core_rules.specs.Typing as T
-use Rattle.core_rules.specs.Typing.{Typing, IsCon, entry}
+use Rattle.core_rules.specs.Typing.{Typing, IsField, entry}
 use Rattle.core_rules.specs.InScope.{IsDataShape, HasShape}
 use Rattle.core_rules.specs.Derivable as D
 use Rattle.core_rules.specs.Derivable.{Derivable, Good, GoodFamily, GoodCon, IsWithin}
-use Rattle.core_rules.specs.Examples.{postulates, nat, vec, pair, zero_con, suc_con, pair_con, pair_fields, families, doubled}
+use Rattle.core_rules.specs.Examples.{postulates, nat, vec, pair, zero_con, suc_con, pair_con, pair_fields, pair_of, pair_type, families, doubled}
+use Rattle.core_rules.specs.Substitution.{shift}
+use Rattle.core_rules.specs.Run.{ConApp}
+use Rattle.core_rules.proofs.Substitution.Lifted.{subst_shifted, subst_shifted_under, shift_none}
 use Rattle.core_rules.proofs.Signature.Growth.{derivable-extended, derivable-shape}
 
 pub derivable-empty : Derivable []
@@ -204,3 +207,27 @@ size-doubled (suc n) =
 
 pub doubled_size : size (doubled 60) ≡ 2 ^ 61 - 1
 doubled_size = let h : size (doubled 60) + 1 ≡ 2 ^ 61 = size-doubled 60 in omega (arith, h)
+
+pub projection_of_pair : (a b x y : Term) → Conv families (Proj 1 (pair_of a b x y)) y
+projection_of_pair a b x y =
+    let s : ConApp = record { con = 4; params = And a (And b End); args = x ∷ y ∷ [] } in
+    C.field (record { fam = 2; at = 1; con = s; place = refl; full = refl; own = refl; is = refl })
+
+retype : {g : Signature Term} {c : Context Term} {t a b : Term} → a ≡ b → Typing g c t a → Typing g c t b
+retype {g = g} {c = c} {t = t} e h = subst (Typing g c t) e h
+
+pub pair_typed : (c : Context Term) (a b x y : Term) → Typing families c a (Sort 0) → Typing families c b (Sort 0) → Typing families c x a → Typing families c y b → Typing families c (pair_of a b x y) (pair_type a b)
+pair_typed c a b x y ha hb hx hy =
+    let ps : Terms = And a (And b End) in
+    let k : Typing families c (Con 4 ps) (Pi Explicit 12 (shift a 0 0) (Pi Explicit 13 (shift b 0 1) (pair_type (shift a 0 2) (shift b 0 2)))) =
+    T.con (record { fam = 2; at = 0; decl = pair; con = pair_con; place = refl; is_decl = refl; is_con = refl }) (T.more (T.more T.none ha) hb) in
+    let one : Typing families c (App Explicit (Con 4 ps) x) (Pi Explicit 13 b (pair_type (shift a 0 1) (shift b 0 1))) =
+    retype (λ i. Pi Explicit 13 ((subst_shifted b 0 0 x (omega arith) ∙ shift_none b 0) i) (pair_type (subst_shifted_under a 0 1 1 x (omega arith) i) (subst_shifted_under b 0 1 1 x (omega arith) i)))
+    (T.app k (retype (sym (shift_none a 0)) hx)) in
+    retype (λ i. pair_type ((subst_shifted a 0 0 y (omega arith) ∙ shift_none a 0) i) ((subst_shifted b 0 0 y (omega arith) ∙ shift_none b 0) i)) (T.app one hy)
+
+pub projections_typed : (c : Context Term) (a b p : Term) → Typing families c p (pair_type a b) → Typing families c (Proj 0 p) a × Typing families c (Proj 1 p) b
+projections_typed c a b p h =
+    let first : IsField families 0 = record { fam = 2; at = 0; decl = pair; entry = entry Explicit 12 (Var 1); place = refl; is_decl = refl; is_entry = refl } in
+    let second : IsField families 1 = record { fam = 2; at = 1; decl = pair; entry = entry Explicit 13 (Var 1); place = refl; is_decl = refl; is_entry = refl } in
+    (retype (shift_none a 0) (T.proj first (a ∷ b ∷ []) refl h), retype (shift_none b 0) (T.proj second (a ∷ b ∷ []) refl h))

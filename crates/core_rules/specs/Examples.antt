@@ -1,10 +1,10 @@
 -- Small signatures and terms, written out by hand, of which `examples` says what the rules say.
 use Rattle.std.specs.Prelude.{◌≡◌, ℕ, ◌-◌, ◌^◌, true, false, List, [], ◌∷◌, Some, zero, suc}
 use Rattle.core_rules.specs.declared.Flag.TheVariants.{Explicit, Implicit}
-use Rattle.core_rules.specs.Term.{Term, Terms, Var, Sort, Pi, App, Def, Fam, Con, Proj, End, size}
-use Rattle.core_rules.specs.Signature.{Entry, ConDecl, FamDecl, Postulate, Family, Signature, fam_decl}
+use Rattle.core_rules.specs.Term.{Term, Terms, Var, Sort, Pi, App, Def, Fam, Con, Proj, End, And, size}
+use Rattle.core_rules.specs.Signature.{Entry, ConDecl, FamDecl, Postulate, Family, Signature, fam_decl, Context}
 use Rattle.core_rules.specs.Conversion.{Conv, IsEtaCon}
-use Rattle.core_rules.specs.Typing.{entry}
+use Rattle.core_rules.specs.Typing.{entry, Typing}
 use Rattle.core_rules.specs.Derivable.{Derivable}
 
 -- Nat : Set, z : Nat, P : Nat → Set, y : P z, with any names
@@ -69,6 +69,22 @@ FamiliesDerivable = Derivable families
 -- pair (fst p) (snd p), where pair has id 4 and its fields have ids 0 and 1, at any parameters
 abbrev pub PairOfProjections : Type 0
 PairOfProjections = (ps : Terms) (p : Term) → Conv families (App Explicit (App Explicit (Con 4 ps) (Proj 0 p)) (Proj 1 p)) p
+
+-- pair a b x y, where pair has the parameters a and b
+abbrev pub pair_of : Term → Term → Term → Term → Term
+pair_of a b x y = App Explicit (App Explicit (Con 4 (And a (And b End))) x) y
+
+abbrev pub pair_type : Term → Term → Term
+pair_type a b = App Explicit (App Explicit (Fam 2) a) b
+
+abbrev pub ProjectionOfPair : Type 0
+ProjectionOfPair = (a b x y : Term) → Conv families (Proj 1 (pair_of a b x y)) y
+
+abbrev pub PairTyped : Type 0
+PairTyped = (c : Context Term) (a b x y : Term) → Typing families c a (Sort 0) → Typing families c b (Sort 0) → Typing families c x a → Typing families c y b → Typing families c (pair_of a b x y) (pair_type a b)
+
+abbrev pub ProjectionsTyped : Type 0
+ProjectionsTyped = (c : Context Term) (a b p : Term) → Typing families c p (pair_type a b) → Typing families c (Proj 0 p) a × Typing families c (Proj 1 p) b
 
 abbrev pub NoEtaWithoutFields : Type 0
 NoEtaWithoutFields = (g : Signature Term) (k d : ℕ) (decl : FamDecl Term) → Derivable g → fam_decl g d ≡ Some decl → decl.fields ≡ [] → IsEtaCon g k d → ⊥

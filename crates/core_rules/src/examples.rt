@@ -1,7 +1,7 @@
 //! Derivations written out by hand: the rules hold of real declarations and terms. Each is the contract of a function that does nothing.
 //! The signatures, the terms and the statements stand in `specs/Examples.antt`.
 
-ghost use Rattle.core_rules.specs.Examples.{PostulatesDerivable, FamiliesDerivable, PairOfProjections, NoEtaWithoutFields, DoubledSize};
+ghost use Rattle.core_rules.specs.Examples.{PostulatesDerivable, FamiliesDerivable, PairOfProjections, NoEtaWithoutFields, DoubledSize, ProjectionOfPair, PairTyped, ProjectionsTyped};
 
 /// The signature of `Nat : Set`, `z : Nat`, `P : Nat → Set` and `y : P z` is derivable.
 pub fn postulates_derivable()
@@ -16,6 +16,21 @@ pub fn families_derivable()
 /// `pair (fst p) (snd p)` converts to `p`.
 pub fn pair_of_projections()
     ensures { PairOfProjections }
+{}
+
+/// `snd (pair x y)` converts to `y`.
+pub fn projection_of_pair()
+    ensures { ProjectionOfPair }
+{}
+
+/// `pair x y` has type `Pair A B` where `x` has type `A`, `y` has type `B`, and these are types.
+pub fn pair_typed()
+    ensures { PairTyped }
+{}
+
+/// `fst p` has type `A` and `snd p` has type `B` where `p` has type `Pair A B`.
+pub fn projections_typed()
+    ensures { ProjectionsTyped }
 {}
 
 /// The eta rule for records has no instance at a record without fields.
