@@ -1,2 +1,5 @@
 pub mod Causes
 pub mod Stored
+pub mod Place
+pub mod Runs
+pub mod View

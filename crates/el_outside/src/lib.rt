@@ -2,6 +2,7 @@
 //! contracts say what a call did and when it may fail.
 #![tactic(auto)]
 
+mod cursor;
 mod files;
 mod many;
 mod no_memory;
@@ -10,6 +11,7 @@ mod sink;
 mod source;
 mod text;
 
+pub use cursor::{CharSet, Cursor, is_white};
 pub use files::{FileRead, FileWrite, Files};
 pub use many::Many;
 pub use no_memory::NoMemory;
