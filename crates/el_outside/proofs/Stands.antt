@@ -1,9 +1,9 @@
 -- What a cursor over a text shows is what is left of the text at its place, and that place is the definition's.
-use Rattle.std.proofs.Common.{ℕ, ◌≡◌, ◌≢◌, ◌+◌, ◌-◌, ◌≤◌, ◌<◌, Bool, true, false, cond, eqb, List, [], ◌∷◌, ◌++◌, refl, length, take, drop, ap, sym, ◌∙◌, subst, append_assoc, arith, add-zero}
+use Rattle.std.proofs.Common.{ℕ, ◌≡◌, ◌+◌, ◌-◌, true, false, cond, eqb, List, [], ◌∷◌, ◌++◌, refl, length, take, drop, ap, sym, ◌∙◌, arith}
 use Rattle.std.proofs.lemmas.Bool.Decides.{nat_tests}
-use Rattle.std.proofs.lemmas.List.{append-nil, length-append, length-take, take-append-drop, take_at, drop_at}
+use Rattle.std.proofs.lemmas.List.{append-nil, length-take, take_at, drop_at}
 use Rattle.std.proofs.Math.Seq.{take-add}
-use Rattle.std.proofs.lemmas.Str.{chars-nil, chars-append, chars_past_char, encodes-chars, encodes-append, length-encode, len_utf8_bounds, drop_past_char, IsUtf8-take, IsUtf8-drop, IsUtf8-between, IsUtf8-past_char, IsCharBoundary-start, IsCharBoundary-at_seam, IsCharBoundary-past_char}
+use Rattle.std.proofs.lemmas.Str.{chars-nil, chars-append, chars_past_char, encodes-chars, length-encode, len_utf8_bounds, drop_past_char, IsUtf8-take, IsUtf8-drop, IsUtf8-between, IsUtf8-past_char, IsCharBoundary-start, IsCharBoundary-at_seam, IsCharBoundary-past_char}
 use Rattle.std.specs.Str.{chars, encode_utf8_all, IsUtf8, IsCharBoundary}
 use Rattle.std.specs.Char.{len_utf8}
 use Rattle.el_outside.specs.Place.{Place, Rest, after, start, origin, after_mark, next, sees, end_from, end_of}

@@ -2,7 +2,7 @@
 use Rattle.std.specs.Prelude.{◌≡◌, ℕ, ◌+◌, ◌<◌, ◌≤◌, ◌^◌, List, length, take, slice_index}
 use Rattle.std.specs.List.Sorted.{IsNonDecreasing}
 use Rattle.std.specs.Str.{chars, IsUtf8, IsCharBoundary}
-use Rattle.el_outside.specs.Place.{Place, start, end_of}
+use Rattle.el_outside.specs.Place.{start, end_of}
 use Rattle.el_outside.specs.declared.line_table.LineTable.TheInside.{Inside}
 
 -- line n begins at the offset at

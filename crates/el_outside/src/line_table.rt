@@ -84,7 +84,8 @@ mod tests {
     // later one is; a tab and a carriage return are one each.
     #[test]
     fn finds_places(rt: HostRuntime) -> Result<(), NoMemory> {
-        let table = LineTable::new(rt.alloc(), "\u{FEFF}a\tλ\r\n\n\u{FEFF}b")?;
+        let text = "\u{FEFF}a\tλ\r\n\n\u{FEFF}b";
+        let table = LineTable::new(rt.alloc(), text)?;
         let places = [
             (0, 1, 1),
             (3, 1, 1),
@@ -98,6 +99,7 @@ mod tests {
             (14, 3, 3),
         ];
         for (at, line, col) in places {
+            assert!(rt; text.is_char_boundary(at as usize), "at {at}");
             assert_eq!(rt; table.pos(at), Pos { line, col }, "at {at}");
         }
         Ok(())
