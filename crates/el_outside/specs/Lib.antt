@@ -1,0 +1,9 @@
+pub mod Causes
+pub mod Stored
+pub mod Place
+pub mod Planned
+pub mod Memory
+pub mod Runs
+pub mod View
+pub mod Lines
+pub mod Replaced

@@ -1,0 +1,79 @@
+ghost use Rattle.std.specs.Prelude.{◌≡◌, ◌↔◌, [], IfOk, IsTrue, length};
+
+use crate::NoMemory;
+use std::alloc::Global;
+use std::marker::Model;
+
+/// The items of a vector. Contracts see it as their list.
+#[derive(Debug, Drop)]
+pub struct Many<T> {
+    items: Vec<T>,
+}
+
+impl<T> Model for Many<T> {
+    ghost use Rattle.std.specs.Prelude.{List};
+    ghost use Rattle.std.specs.Coded.{coded_list};
+
+    ghost Value = { List T };
+
+    ghost coded = { coded_list T.code };
+
+    ghost view = { λ m. m.items.items };
+}
+
+impl<T> Many<T> {
+    /// Takes no memory.
+    pub fn from_vec(items: Vec<T>) -> Many<T>
+        ensures { result ≡ items.items }
+    {
+        Many { items }
+    }
+
+    /// Takes no memory.
+    pub fn into_vec(self) -> Vec<T>
+        ensures { result.items ≡ self }
+    {
+        let Many { items } = self;
+        items
+    }
+
+    pub fn as_slice(&self) -> &[T]
+        ensures { result.now ≡ self.now }
+    {
+        self.items.as_slice()
+    }
+
+    pub fn len(&self) -> usize
+        ensures { result ≡ length self.now }
+    {
+        self.items.len()
+    }
+
+    pub fn is_empty(&self) -> bool
+        ensures { IsTrue result ↔ (self.now ≡ []) }
+    {
+        self.items.is_empty()
+    }
+}
+
+impl<T: Copy> Many<T> {
+    pub fn copy(&self, alloc: Global) -> Result<Many<T>, NoMemory>
+        ensures { IfOk result (λ m. m ≡ self.now) }
+    {
+        Ok(Many {
+            items: Vec::from_slice(alloc, self.as_slice())?,
+        })
+    }
+}
+
+#[cfg(test)]
+mod tests {
+    use super::*;
+
+    #[test]
+    fn copies(rt: HostRuntime) -> Result<(), NoMemory> {
+        let many = Many::from_vec(Vec::from_slice(rt.alloc(), &[3u32, 5])?).copy(rt.alloc())?;
+        assert!(rt; many.as_slice() == [3, 5].as_slice() && many.len() == 2 && !many.is_empty());
+        Ok(())
+    }
+}
