@@ -1,0 +1,10 @@
+//! What terms are and which rules they obey: trees, substitution, signatures, conversion, typing, and when a signature is derivable.
+//! Every promise of the checker is stated over these definitions. They stand in `specs/`; nothing here runs but `Flag`.
+#![tactic(auto)]
+
+/// How an argument is given: written out, or left to be found.
+#[derive(Clone, Copy, Debug, PartialEq, Eq)]
+pub enum Flag {
+    Explicit,
+    Implicit,
+}
