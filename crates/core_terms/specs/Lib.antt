@@ -1,0 +1,4 @@
+pub mod Node
+pub mod Pool
+pub mod Growth
+pub mod Signature

@@ -6,11 +6,19 @@
 
 mod ids;
 mod names;
+mod node;
+mod pool;
 mod row;
+mod signature;
+mod telescope;
 
 pub use ids::{ConId, DefId, FamId, FieldId, MetaId, NameId, NoMemory, TermId};
 pub use names::Names;
+pub use node::{Node, Parts};
+pub use pool::{Args, PoolMark, TermPool};
 pub use row::Row;
+pub use signature::{CoreDecl, DefEntry, DefState, SigMark, Signature};
+pub use telescope::{Entry, Limits, Telescope};
 
 #[cfg(test)]
 mod tests;

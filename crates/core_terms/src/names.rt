@@ -6,7 +6,7 @@ use std::marker::Model;
 
 /// The texts of names by id. A binder without a name has the empty text.
 /// Contracts see the list of the texts, each as its bytes.
-#[derive(Debug, Drop)]
+#[derive(Drop)]
 pub struct Names {
     texts: Vec<String>,
     alloc: Global,

@@ -4,7 +4,7 @@ use crate::ids::NoMemory;
 use std::marker::Model;
 
 /// A list in a type that holds terms. Contracts see the list of its items.
-#[derive(Debug, Drop)]
+#[derive(Drop)]
 pub struct Row<T> {
     items: Vec<T>,
 }
