@@ -1,3 +1,4 @@
 pub mod Trees
 pub mod Seen
 pub mod Entries
+pub mod Changing

@@ -1,11 +1,11 @@
 -- What the methods of a pool do, of its argument lists and nodes.
 use Rattle.std.specs.Prelude.{◌≡◌, ℕ, ◌+◌, ◌<◌, ◌≤◌, List, [], ◌∷◌, ◌++◌, length, map, get_or, take, drop}
 use Rattle.std.specs.List.{AllByRecursion}
-use Rattle.std.proofs.Common.{refl, sym, ap, ap₂, ◌∙◌, arith, length-append, subst, subst₂, take_all, length-take-le, take-append-drop, le_of_eq}
+use Rattle.std.proofs.Common.{refl, sym, ap, ◌∙◌, arith, length-append, subst, subst₂, take_all, length-take-le, take-append-drop, le_of_eq}
 use Rattle.std.proofs.Math.Seq.{get_or-append_seam, take-append_seam, take-length}
 use Rattle.std.proofs.lemmas.List.{map-append, length-map, take-map}
 use Rattle.std.proofs.lemmas.Grind.{common_steps}
-use Rattle.core_rules.specs.Term.{Term, Sort}
+use Rattle.core_rules.specs.Term.{Sort}
 use Rattle.core_terms.specs.declared.node.Node.{Node}
 use Rattle.core_terms.specs.Pool.{Pool, tree, row, node_tree, IsRow, Below, trees_after, AreBelow, Extends, StandsFor, end_of, seen, IsAdded, Marks, cut_to}
 use Rattle.core_terms.proofs.Trees.{length-trees, trees-at, below-at, below-push, trees_after-push, trees_after-ids, AreBelow-append, AreBelow-first, AreBelow-shorter, trees-first, Below-end}

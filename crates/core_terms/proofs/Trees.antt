@@ -5,7 +5,7 @@ use Rattle.std.proofs.Common.{zero, suc, refl, sym, ap, ◌∙◌, arith, length
 use Rattle.std.proofs.Math.Seq.{get_or-append_seam, take-append_seam, take-length}
 use Rattle.std.proofs.lemmas.List.{get_or_append_left}
 use Rattle.std.proofs.lemmas.Grind.{common_steps}
-use Rattle.core_rules.specs.Term.{Term, Sort, Pi, App}
+use Rattle.core_rules.specs.Term.{Term, Sort}
 use Rattle.core_terms.specs.declared.node.Node.{Node}
 use Rattle.core_terms.specs.declared.node.Node.TheVariants as N
 use Rattle.core_terms.specs.Pool.{row, node_tree, Below, trees_after, AreBelow, end_of}
@@ -24,14 +24,14 @@ node_tree-same f g k e ids (N.Pi b x s t) h = cc (e s h.0, e t h.1)
 node_tree-same f g k e ids (N.App b t u) h = cc (e t h.0, e u h.1)
 node_tree-same f g k e ids (N.Def n) h = refl
 
-node_tree-append : (f : ℕ → Term) (k : ℕ) (ids more : List ℕ) (n : Node) → Below k ids n → node_tree f (ids ++ more) n ≡ node_tree f ids n
+pub node_tree-append : (f : ℕ → Term) (k : ℕ) (ids more : List ℕ) (n : Node) → Below k ids n → node_tree f (ids ++ more) n ≡ node_tree f ids n
 node_tree-append f k ids more (N.Var i) h = refl
 node_tree-append f k ids more (N.Sort i) h = refl
 node_tree-append f k ids more (N.Pi b x s t) h = refl
 node_tree-append f k ids more (N.App b t u) h = refl
 node_tree-append f k ids more (N.Def i) h = refl
 
-Below-append : (k : ℕ) (ids more : List ℕ) (n : Node) → Below k ids n → Below k (ids ++ more) n
+pub Below-append : (k : ℕ) (ids more : List ℕ) (n : Node) → Below k ids n → Below k (ids ++ more) n
 Below-append k ids more (N.Var i) h = h
 Below-append k ids more (N.Sort i) h = h
 Below-append k ids more (N.Pi b x s t) h = h

@@ -5,6 +5,7 @@ use Rattle.std.proofs.Common.{arith, length-take, get_or-take, ap, sym, subst, �
 use Rattle.std.proofs.Math.Seq.{take-length}
 use Rattle.std.proofs.lemmas.Grind.{common_steps}
 use Rattle.core_rules.specs.Term.{Term, Sort}
+use Rattle.core_rules.specs.Substitution.{subst_var}
 use Rattle.core_terms.specs.Pool.{Pool, tree, Extends, StandsFor, Marks}
 
 pub first-length : {A : Type 0} (xs ys : List A) → take (length xs) ys ≡ xs → length xs ≤ length ys
@@ -46,5 +47,8 @@ Extends-Marks {p} {q} {m} h k = record {
   ids = omega (arith, first-length p.ids q.ids h.ids, k.ids);
   ends = subst (λ es. AllByRecursion (λ e. e ≤ m.1) es) (ap (take m.0) (sym h.ends) ∙ take_take m.0 (length p.ends) q.ends k.known) k.ends;
 }
+
+pub subst-stays : (at by : ℕ) (p q : Pool) → Extends p q → by < length p.trees → ◌≡◌ {A = ℕ → ℕ → Term} (subst_var at (tree q by)) (subst_var at (tree p by))
+subst-stays at by p q h l = ap (subst_var at) (Extends-tree by h l)
 
 pub ruleset growth = (Extends-refl, Extends-trans, Extends-length, Extends-tree, Extends-StandsFor, Extends-Marks)

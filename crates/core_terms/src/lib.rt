@@ -4,12 +4,16 @@
 //! Everything above works on ids, and reads in contracts as if it worked on trees.
 #![tactic(auto)]
 
+mod change;
+mod changed;
 mod ids;
 mod names;
 mod node;
 mod pool;
 mod row;
+mod shifting;
 mod signature;
+mod table;
 mod telescope;
 
 pub use ids::{ConId, DefId, FamId, FieldId, MetaId, NameId, NoMemory, TermId};
@@ -17,6 +21,7 @@ pub use names::Names;
 pub use node::{Node, Parts};
 pub use pool::{Args, PoolMark, TermPool};
 pub use row::Row;
+pub use shifting::{shift, subst};
 pub use signature::{CoreDecl, DefEntry, DefState, SigMark, Signature};
 pub use telescope::{Entry, Limits, Telescope};
 

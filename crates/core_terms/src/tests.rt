@@ -1,6 +1,6 @@
 use crate::{
     CoreDecl, DefEntry, DefId, DefState, Entry, NameId, Names, Node, Row, Signature, Telescope,
-    TermPool,
+    TermPool, shift, subst,
 };
 use core_rules::Flag;
 use std::test::Fail;
@@ -86,5 +86,42 @@ fn keeps_postulates(rt: HostRuntime) -> Result<(), Fail> {
         entries: Row::from_vec(vec![in rt.alloc(); entry]?),
     };
     assert_eq!(rt; context.entries.as_slice(), [entry].as_slice());
+    Ok(())
+}
+
+#[test]
+fn changes_once_for_each_shared_node(rt: HostRuntime) -> Result<(), Fail> {
+    let mut pool = TermPool::new(rt.alloc())?;
+    let mut term = pool.add(Node::Var(0))?;
+    for _ in 0..60 {
+        term = pool.add(Node::App {
+            flag: Flag::Explicit,
+            fun: term,
+            arg: term,
+        })?;
+    }
+    let before = pool.len();
+    let moved = shift(rt.alloc(), &mut pool, term, 0, 7)?;
+    assert!(rt; pool.len() <= before.wrapping_add(61));
+    let back = subst(rt.alloc(), &mut pool, moved, 3, term)?;
+    assert!(rt; pool.len() <= before.wrapping_add(122));
+    assert!(rt; (back.number() as usize) < pool.len());
+    Ok(())
+}
+
+#[test]
+fn changes_deep_terms(rt: HostRuntime) -> Result<(), Fail> {
+    let mut pool = TermPool::new(rt.alloc())?;
+    let variable = pool.add(Node::Var(0))?;
+    let mut term = variable;
+    for _ in 0..300_000 {
+        term = pool.add(Node::App {
+            flag: Flag::Explicit,
+            fun: term,
+            arg: variable,
+        })?;
+    }
+    let moved = shift(rt.alloc(), &mut pool, term, 0, 7)?;
+    assert!(rt; (moved.number() as usize) < pool.len());
     Ok(())
 }

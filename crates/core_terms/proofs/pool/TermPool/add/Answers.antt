@@ -1,4 +1,4 @@
-use Rattle.std.proofs.Common.{arith, ◌≡◌, length}
+use Rattle.std.proofs.Common.{arith}
 use Rattle.core_terms.specs.Pool.{seen, AreBelow, IsAdded}
 use Rattle.core_terms.proofs.Seen.{seen-added, IsAdded-Extends, IsAdded-StandsFor}
 use Rattle.core_terms.proofs.pool.TermPool.add.Goals as goal

@@ -1,4 +1,4 @@
-use Rattle.std.proofs.Common.{arith, length}
+use Rattle.std.proofs.Common.{arith}
 use Rattle.core_terms.specs.Pool.{seen, AreBelow}
 use Rattle.core_terms.proofs.Seen.{seen-args, AddsRow}
 use Rattle.core_terms.proofs.pool.TermPool.add_args.Goals as goal

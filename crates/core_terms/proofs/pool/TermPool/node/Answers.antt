@@ -1,4 +1,4 @@
-use Rattle.std.proofs.Common.{arith, length, ◌<◌, ◌≡◌}
+use Rattle.std.proofs.Common.{arith, length, ◌<◌}
 use Rattle.core_terms.proofs.Trees.{length-trees}
 use Rattle.core_terms.proofs.Seen.{seen-node}
 use Rattle.core_terms.proofs.pool.TermPool.node.Goals as goal

@@ -1,0 +1,131 @@
+ghost use Rattle.std.specs.Prelude.{◌≡◌, ◌<◌, [], ◌∷◌, ◌++◌, length, IfOk, OnOk};
+ghost use Rattle.core_rules.specs.Substitution.{over};
+ghost use Rattle.core_terms.specs.Pool.{Pool, tree, Extends, StandsFor};
+ghost use Rattle.core_terms.specs.Change.{State, Turn};
+ghost use Rattle.core_terms.specs.declared.change.Task.TheVariants.{Make};
+
+use crate::change::{Change, Task};
+use crate::ids::{NoMemory, TermId, push};
+use crate::node::Parts;
+use crate::pool::TermPool;
+use crate::table::Table;
+use std::alloc::Global;
+
+/// The term with its variables changed. It works once for each shared node under so many binders, and keeps the nodes
+/// that wait in a list, so that a term of any depth gets its answer.
+pub(crate) fn changed<C: Change>(
+    alloc: Global,
+    pool: &mut TermPool,
+    change: &C,
+    t: TermId,
+) -> Result<TermId, NoMemory>
+    requires within { t < length pool.old.trees }
+    requires ready { C.ready change.now pool.old }
+    ensures extends { Extends pool.old pool.new }
+    ensures is { IfOk result (λ r. StandsFor pool.new r (over (C.term change.now pool.old) 0 (tree pool.old t))) }
+{
+    let mut table = Table::new(alloc);
+    let mut pending = Vec::new(alloc);
+    push(&mut pending, Task::Make { t, under: 0 })?;
+    while let Some(task) = pending.pop() {
+        turn(alloc, pool, &mut table, &mut pending, change, task)?;
+    }
+    match table.get(t, 0) {
+        Some(made) => Ok(made),
+        None => unreachable!(),
+    }
+}
+
+/// Works on the last of the tasks.
+fn turn<C: Change>(
+    alloc: Global,
+    pool: &mut TermPool,
+    table: &mut Table,
+    pending: &mut Vec<Task>,
+    change: &C,
+    task: Task,
+) -> Result<(), NoMemory>
+    requires ready { C.ready change.now pool.old }
+    requires state { State (C.term change.now pool.old) pool.old table.old (pending.old.items ++ task ∷ []) }
+    ensures extends { Extends pool.old pool.new }
+    ensures turn { OnOk result (Turn (C.term change.now pool.old) pool.old table.old (pending.old.items ++ task ∷ []) pool.new table.new pending.new.items) }
+{
+    match task {
+        Task::Make { t, under } => {
+            if table.get(t, under).is_some() {
+                return Ok(());
+            }
+            make(alloc, pool, table, pending, change, t, under)
+        }
+        Task::Join {
+            t,
+            under,
+            node,
+            first,
+            second,
+            inner,
+        } => {
+            let Some(first) = table.get(first, under) else {
+                unreachable!()
+            };
+            let Some(second) = table.get(second, inner) else {
+                unreachable!()
+            };
+            let made = pool.add(node.with_two(first, second))?;
+            table.put(t, under, made)
+        }
+    }
+}
+
+/// Makes the result of a node without parts, and lets a node with parts wait for theirs.
+fn make<C: Change>(
+    alloc: Global,
+    pool: &mut TermPool,
+    table: &mut Table,
+    pending: &mut Vec<Task>,
+    change: &C,
+    t: TermId,
+    under: u32,
+) -> Result<(), NoMemory>
+    requires ready { C.ready change.now pool.old }
+    requires state { State (C.term change.now pool.old) pool.old table.old (pending.old.items ++ Make t under ∷ []) }
+    ensures extends { Extends pool.old pool.new }
+    ensures turn { OnOk result (Turn (C.term change.now pool.old) pool.old table.old (pending.old.items ++ Make t under ∷ []) pool.new table.new pending.new.items) }
+{
+    let node = pool.node(t);
+    match node.parts() {
+        Parts::Variable(index) => {
+            let made = change.variable(alloc, pool, t, under, index)?;
+            table.put(t, under, made)
+        }
+        Parts::Alone => table.put(t, under, t),
+        Parts::Two {
+            first,
+            second,
+            binds,
+        } => {
+            let Some(inner) = under.checked_add(binds) else {
+                return Err(NoMemory);
+            };
+            push(
+                pending,
+                Task::Join {
+                    t,
+                    under,
+                    node,
+                    first,
+                    second,
+                    inner,
+                },
+            )?;
+            push(
+                pending,
+                Task::Make {
+                    t: second,
+                    under: inner,
+                },
+            )?;
+            push(pending, Task::Make { t: first, under })
+        }
+    }
+}
