@@ -1,0 +1,17 @@
+pub mod Traversal
+pub mod Lifting
+pub mod Spines
+pub mod Constructors
+pub mod Renaming
+pub mod Converted
+pub mod Changes
+pub mod Substitutions
+pub mod Pointwise
+pub mod Weakening
+pub mod Closed
+pub mod Changed
+pub mod Weakened
+pub mod Places
+pub mod Records
+pub mod Substituted
+pub mod SubstitutedTyping

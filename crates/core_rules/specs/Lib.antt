@@ -3,4 +3,12 @@ pub mod Stored
 pub mod Substitution
 pub mod Signature
 pub mod Mapped
+pub mod Elimination
+pub mod Run
+pub mod Conversion
+pub mod Typing
+pub mod TypedTree
+pub mod InScope
+pub mod Derivable
+pub mod Laws
 pub mod StoredSignature

@@ -1,5 +1,5 @@
 -- Declarations and signatures over terms of any type A (ids in code, trees in the rules), and what an id names.
-use Rattle.std.specs.Prelude.{◌≡◌, ℕ, ◌+◌, Bool, false, List, [], ◌∷◌, ◌++◌, length, map, sum, take, get_or, slice_get, Option, Some, None, option_map, option_and_then, zero, suc}
+use Rattle.std.specs.Prelude.{ℕ, ◌+◌, Bool, false, cond, eqb, List, [], ◌∷◌, ◌++◌, length, map, sum, take, get_or, slice_get, Option, Some, None, option_and_then, zero, suc}
 use Rattle.core_rules.specs.declared.Flag.{Flag}
 
 -- one variable with its type
@@ -79,8 +79,8 @@ pub record CoreClause (A : Type 0) : Type 0 where
   pub left : CheckedLeft A
   pub right : Option A
 
--- the context of what is below a split; for each variable of the split constructor's context, outermost first, its value there;
--- and for each variable of the branch's context, innermost first, the variable of the constructor's context that it is
+-- What is below a split on a constructor: its context; `values`, for each variable of the context that the constructor's arguments
+-- extend, its value in this one; `keep`, for each variable of this context, the variable of that one that it is. Both stand innermost first
 pub record Branch (A : Type 0) : Type 0 where
   pub context : Telescope A
   pub values : List A
@@ -140,13 +140,6 @@ Signature A = List (Decl A)
 -- a family as it is known before its constructors and fields: a data type without constructors, also where it is a record
 abbrev pub without_cons : {A : Type 0} → FamDecl A → FamDecl A
 without_cons d = record d { is_record = false; cons = []; fields = []; eta = false; coinductive = false }
-
--- a declaration as it is known while it is checked itself
-abbrev pub in_checking : {A : Type 0} → Decl A → Decl A
-in_checking (Postulate x a) = Postulate x a
-in_checking (Family d) = Family (without_cons d)
-in_checking (Open x a) = Open x a
-in_checking (Function x a qs T) = Open x a
 
 -- What an id names. Postulates and functions are counted by ids of one kind, families by those of another,
 -- constructors by those of a third, fields by those of a fourth, each from 0 in the order of declaration
@@ -240,3 +233,14 @@ cons_of g d = ids_of (con_counts g) d
 -- the ids of the fields of family d, in order
 abbrev pub fields_of : {A : Type 0} → Signature A → ℕ → List ℕ
 fields_of g d = ids_of (field_counts g) d
+
+-- the branch of a field
+abbrev pub co_branch : {A : Type 0} → CoBranches A → ℕ → Option (Tree A)
+co_branch NoField f = None
+co_branch (OnField h T bs) f = cond (eqb h f) (Some T) (co_branch bs f)
+
+-- the branch of a constructor, where it goes on
+abbrev pub con_branch : {A : Type 0} → ConBranches A → ℕ → Option (Branch A × Tree A)
+con_branch NoCon k = None
+con_branch (Refuted h bs) k = cond (eqb h k) None (con_branch bs k)
+con_branch (Goes h b T bs) k = cond (eqb h k) (Some (b, T)) (con_branch bs k)

@@ -4,9 +4,8 @@ use Rattle.std.specs.Coded.{Coded, code_by, coded_ℕ, coded_bool, coded_list, c
 use mathlib.Core.Logic.{inl, inr}
 use base.Stored.{Gv, gnil, gnum, gcons, num}
 use denote.Struct.Codes.{itself}
-use Rattle.core_rules.specs.declared.Flag.{Flag}
 use Rattle.core_rules.specs.Stored.{flag_to, flag_from, flag_back}
-use Rattle.core_rules.specs.Signature.{Entry, Telescope, Origin, Written, Variable, Underscore, Inserted, Braces, Without, Plain, Named, CorePat, PatShape, CorePats, Pat, VarPat, SolvedPat, DottedPat, ConPat, AbsurdPat, ProjectionPat, NoPat, AndPat, Solved, Dot, CheckedLeft, CoreClause, Branch, Tree, CoBranches, ConBranches, Leaf, Intro, Cosplit, Split, RecordSplit, Absurd, NoField, OnField, NoCon, Refuted, Goes, ConDecl, FamDecl, Decl, Postulate, Family, Open, Function, Signature}
+use Rattle.core_rules.specs.Signature.{Entry, Origin, Written, Variable, Underscore, Inserted, Braces, Without, Plain, Named, CorePat, PatShape, CorePats, Pat, VarPat, SolvedPat, DottedPat, ConPat, AbsurdPat, ProjectionPat, NoPat, AndPat, Solved, Dot, CheckedLeft, CoreClause, Branch, Tree, CoBranches, ConBranches, Leaf, Intro, Cosplit, Split, RecordSplit, Absurd, NoField, OnField, NoCon, Refuted, Goes, ConDecl, FamDecl, Decl, Postulate, Family, Open, Function, Signature}
 
 abbrev list_to : {X : Type 0} → (X → Gv) → List X → Gv
 list_to to [] = gnil

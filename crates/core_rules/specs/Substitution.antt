@@ -1,6 +1,6 @@
 -- What is put for the variables of a term, and for its metavariables.
 use Rattle.std.specs.Prelude.{ℕ, ◌+◌, ◌-◌, eqb, ltb, cond, List, get_or, Option, Some, None, option_map, zero, suc}
-use Rattle.core_rules.specs.Term.{Term, Terms, Var, Sort, Pi, Lam, App, Def, Fam, Con, Proj, Meta, End, And, to_list}
+use Rattle.core_rules.specs.Term.{Term, Terms, Var, Sort, Pi, Lam, App, Def, Fam, Con, Proj, Meta, End, And, env_of}
 
 -- each variable i of t becomes f d i, where d counts on by one under each binder
 abbrev mutual
@@ -49,7 +49,7 @@ under r t = over (env_var r) 0 t
 -- what stands for metavariable m at ts: its solution under these arguments, where it has one
 abbrev pub put_solution : ℕ → Terms → Option Term → Term
 put_solution m ts None = Meta m ts
-put_solution m ts (Some t) = under (to_list ts) t
+put_solution m ts (Some t) = under (env_of ts) t
 
 -- t with each metavariable that s solves replaced by its solution; what stands in the solutions is left as it is
 abbrev mutual

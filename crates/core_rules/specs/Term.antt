@@ -1,5 +1,5 @@
 -- Terms as trees of ten kinds with de Bruijn indices, when two are the same term, and how large they are.
-use Rattle.std.specs.Prelude.{◌≡◌, ℕ, ◌+◌, max, Bool, false, ◌||◌, eqb, List, [], ◌∷◌}
+use Rattle.std.specs.Prelude.{◌≡◌, ℕ, ◌+◌, max, Bool, false, ◌||◌, eqb, List, [], ◌∷◌, reverse}
 use Rattle.core_rules.specs.declared.Flag.{Flag}
 
 -- Pi and Lam carry the name of their variable, Lam its domain, Con its parameters, Meta its arguments
@@ -27,6 +27,10 @@ to_list (And t ts) = t ∷ to_list ts
 abbrev pub from_list : List Term → Terms
 from_list [] = End
 from_list (t ∷ ts) = And t (from_list ts)
+
+-- arguments, which stand outermost first, as an environment, which stands innermost first
+abbrev pub env_of : Terms → List Term
+env_of ts = reverse (to_list ts)
 
 -- t with every name replaced by 0
 abbrev mutual
@@ -103,3 +107,24 @@ abbrev mutual
   pub occurs_in : ℕ → Terms → Bool
   occurs_in i End = false
   occurs_in i (And t ts) = occurs i t || occurs_in i ts
+
+-- each metavariable that stands in t has the property P
+abbrev mutual
+  pub AllMetas : (ℕ → Type 0) → Term → Type 0
+  AllMetas P (Var i) = Unit {0}
+  AllMetas P (Sort n) = Unit {0}
+  AllMetas P (Pi b x a t) = AllMetas P a × AllMetas P t
+  AllMetas P (Lam b x a t) = AllMetas P a × AllMetas P t
+  AllMetas P (App b t u) = AllMetas P t × AllMetas P u
+  AllMetas P (Def f) = Unit {0}
+  AllMetas P (Fam d) = Unit {0}
+  AllMetas P (Con k ts) = AllMetasIn P ts
+  AllMetas P (Proj f t) = AllMetas P t
+  AllMetas P (Meta m ts) = P m × AllMetasIn P ts
+
+  pub AllMetasIn : (ℕ → Type 0) → Terms → Type 0
+  AllMetasIn P End = Unit {0}
+  AllMetasIn P (And t ts) = AllMetas P t × AllMetasIn P ts
+
+abbrev pub HasNoMeta : Term → Type 0
+HasNoMeta t = AllMetas (λ m. ⊥) t
