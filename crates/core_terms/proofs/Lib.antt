@@ -1,4 +1,5 @@
 pub mod Trees
 pub mod Seen
 pub mod Entries
-pub mod Changing
+pub mod Turns
+pub mod Shifts

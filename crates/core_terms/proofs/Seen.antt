@@ -7,7 +7,7 @@ use Rattle.std.proofs.lemmas.List.{map-append, length-map, take-map}
 use Rattle.std.proofs.lemmas.Grind.{common_steps}
 use Rattle.core_rules.specs.Term.{Sort}
 use Rattle.core_terms.specs.declared.node.Node.{Node}
-use Rattle.core_terms.specs.Pool.{Pool, tree, row, node_tree, IsRow, Below, trees_after, AreBelow, Extends, StandsFor, end_of, seen, IsAdded, Marks, cut_to}
+use Rattle.core_terms.specs.Pool.{Pool, tree, row, node_tree, IsRow, Below, trees_after, AreBelow, Extends, StandsFor, end_of, seen, Marks, cut_to}
 use Rattle.core_terms.proofs.Trees.{length-trees, trees-at, below-at, below-push, trees_after-push, trees_after-ids, AreBelow-append, AreBelow-first, AreBelow-shorter, trees-first, Below-end}
 
 pub seen-node : (ids : List ℕ) (ns : List Node) (p : Pool) (t i : ℕ) (n : Node) → seen ids ns ≡ p → AreBelow 0 ids ns → t < length p.trees → i ≡ t → n ≡ get_or ns i n
@@ -17,6 +17,13 @@ seen-node ids ns p t i n e h l k m =
     (λ l. let l' : t < length ns = omega (arith, length-trees ids ns) in
     subst (λ x. Below t ids x × (tree (seen ids ns) t ≡ node_tree (tree (seen ids ns)) ids x)) (sym m)
     (rw k (below-at ids ns t n h l', trees-at ids ns t n h l'))) l
+
+-- node was put at the end of p, as id t
+pub record IsAdded (p : Pool) (n : Node) (t : ℕ) (q : Pool) : Type 0 where
+  pub place : t ≡ length p.trees
+  pub trees : q.trees ≡ p.trees ++ node_tree (tree p) p.ids n ∷ []
+  pub ids : q.ids ≡ p.ids
+  pub ends : q.ends ≡ p.ends ++ end_of n ∷ []
 
 pub seen-added : (ids : List ℕ) (ns ms : List Node) (p : Pool) (t : ℕ) (n : Node) → seen ids ns ≡ p → AreBelow 0 ids ns → Below (length p.trees) p.ids n → ms ≡ ns ++ n ∷ [] → t ≡ length ns
     → AreBelow 0 ids ms × IsAdded p n t (seen ids ms)

@@ -4,3 +4,4 @@ pub mod Growth
 pub mod Signature
 pub mod Table
 pub mod Change
+pub mod Shifted

@@ -96,10 +96,3 @@ pub record Marks (p : Pool) (m : ℕ × ℕ) : Type 0 where
 -- p cut to a mark
 abbrev pub cut_to : ℕ × ℕ → Pool → Pool
 cut_to m p = record { trees = take m.0 p.trees; ids = take m.1 p.ids; ends = take m.0 p.ends }
-
--- node was put at the end of p, as id t
-pub record IsAdded (p : Pool) (n : Node) (t : ℕ) (q : Pool) : Type 0 where
-  pub place : t ≡ length p.trees
-  pub trees : q.trees ≡ p.trees ++ node_tree (tree p) p.ids n ∷ []
-  pub ids : q.ids ≡ p.ids
-  pub ends : q.ends ≡ p.ends ++ end_of n ∷ []

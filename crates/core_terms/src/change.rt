@@ -1,6 +1,5 @@
-ghost use Rattle.std.specs.Prelude.{◌≡◌, ℕ, ◌+◌, ◌<◌, ◌⊎◌, [], ◌∷◌, ◌++◌, length, None, IfOk, OnOk};
+ghost use Rattle.std.specs.Prelude.{◌≡◌, ℕ, ◌<◌, length, IfOk, OnOk};
 ghost use Rattle.core_rules.specs.Term.{Term, Var};
-ghost use Rattle.core_rules.specs.Substitution.{over};
 ghost use Rattle.core_terms.specs.Pool.{Pool, tree, Extends, StandsFor};
 
 use crate::ids::{NoMemory, TermId};
@@ -13,23 +12,25 @@ pub(crate) trait Change {
     // the term for variable i under d binders
     ghost term: { Self → Pool → ℕ → ℕ → Term };
 
-    // what must stand in the pool
+    // what must stand in the pool, and what the change keeps of its own
     ghost ready: { Self → Pool → Type 0 };
 
     /// The term for the variable `index`, which is the node `t`, under so many binders.
     fn variable(
-        &self,
+        &mut self,
         alloc: Global,
         pool: &mut TermPool,
         t: TermId,
         under: u32,
         index: u32,
     ) -> Result<TermId, NoMemory>
-        requires ready { ready self.now pool.old }
+        requires ready { ready self.old pool.old }
         requires within { t < length pool.old.trees }
         requires is { tree pool.old t ≡ Var index }
         ensures extends { Extends pool.old pool.new }
-        ensures is { IfOk result (λ r. StandsFor pool.new r (term self.now pool.old under index)) };
+        ensures is { IfOk result (λ r. StandsFor pool.new r (term self.old pool.old under index)) }
+        ensures same { OnOk result (term self.new pool.new ≡ term self.old pool.old) }
+        ensures ready { OnOk result (ready self.new pool.new) };
 
     ghost stays_ready: { (x : Self) (p q : Pool) → Extends p q → ready x p → ready x q };
 

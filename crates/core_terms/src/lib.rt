@@ -5,7 +5,6 @@
 #![tactic(auto)]
 
 mod change;
-mod changed;
 mod ids;
 mod names;
 mod node;
@@ -15,6 +14,7 @@ mod shifting;
 mod signature;
 mod table;
 mod telescope;
+mod traversal;
 
 pub use ids::{ConId, DefId, FamId, FieldId, MetaId, NameId, NoMemory, TermId};
 pub use names::Names;

@@ -1,14 +1,15 @@
-ghost use Rattle.std.specs.Prelude.{◌≡◌, ◌<◌, length, IfOk, refl};
+ghost use Rattle.std.specs.Prelude.{◌≡◌, ◌<◌, length, IfOk, OnOk, refl};
 ghost use Rattle.core_rules.specs.Substitution.{shift, shift_var, subst, subst_var};
 ghost use Rattle.core_terms.specs.Pool.{Pool, tree, Extends, StandsFor};
-ghost use Rattle.core_terms.specs.Growth.{Extends-length, subst-stays};
-ghost use Rattle.std.proofs.Common.{arith};
+ghost use Rattle.core_terms.specs.Growth.{subst-stays};
+ghost use Rattle.core_terms.specs.Shifted.{IsShifted, IsShifted-stays};
 
 use crate::change::Change;
-use crate::changed::changed;
 use crate::ids::{NoMemory, TermId};
 use crate::node::Node;
 use crate::pool::TermPool;
+use crate::table::Table;
+use crate::traversal::changed;
 use std::alloc::Global;
 
 /// The variables from `from` on rise by `by`.
@@ -28,7 +29,7 @@ impl Change for Rise {
     ghost stays = { λ s p q h k. refl };
 
     fn variable(
-        &self,
+        &mut self,
         _alloc: Global,
         pool: &mut TermPool,
         t: TermId,
@@ -54,19 +55,40 @@ impl Change for Rise {
 struct Replace {
     at: u32,
     by: TermId,
+    /// The term, shifted by so many binders: once for each number of them.
+    shifted: Table,
+}
+
+impl Replace {
+    /// The term under so many binders.
+    fn value(&mut self, alloc: Global, pool: &mut TermPool, under: u32) -> Result<TermId, NoMemory>
+        requires { IsShifted self.old.shifted self.old.by pool.old }
+        ensures extends { Extends pool.old pool.new }
+        ensures is { IfOk result (λ r. StandsFor pool.new r (shift (tree pool.old self.old.by) 0 under)) }
+        ensures at { self.new.at ≡ self.old.at }
+        ensures by { self.new.by ≡ self.old.by }
+        ensures shifted { OnOk result (IsShifted self.new.shifted self.old.by pool.new) }
+    {
+        if let Some(made) = self.shifted.get(self.by, under) {
+            return Ok(made);
+        }
+        let made = shift(alloc, pool, self.by, 0, under)?;
+        self.shifted.put(self.by, under, made)?;
+        Ok(made)
+    }
 }
 
 impl Change for Replace {
     ghost term = { λ s p d i. subst_var s.at (tree p s.by) d i };
 
-    ghost ready = { λ s p. s.by < length p.trees };
+    ghost ready = { λ s p. IsShifted s.shifted s.by p };
 
-    ghost stays_ready = { λ s p q h k. Prim.omega (arith, Extends-length h) };
+    ghost stays_ready = { λ s p q h k. IsShifted-stays h k };
 
-    ghost stays = { λ s p q h k. subst-stays s.at s.by p q h k };
+    ghost stays = { λ s p q h k. subst-stays s.at s.by p q h k.within };
 
     fn variable(
-        &self,
+        &mut self,
         alloc: Global,
         pool: &mut TermPool,
         t: TermId,
@@ -80,7 +102,7 @@ impl Change for Replace {
             return Ok(t);
         }
         if index == place {
-            return shift(alloc, pool, self.by, 0, under);
+            return self.value(alloc, pool, under);
         }
         pool.add(Node::Var(index - 1))
     }
@@ -98,7 +120,10 @@ pub fn shift(
     ensures extends { Extends pool.old pool.new }
     ensures is { IfOk result (λ r. StandsFor pool.new r (shift (tree pool.old t) from by)) }
 {
-    changed(alloc, pool, &Rise { from, by }, t)
+    if by == 0 {
+        return Ok(t);
+    }
+    changed(alloc, pool, &mut Rise { from, by }, t)
 }
 
 /// The term with `by`, which stands in the context of the result, for the variable `at`; the later variables move down by one.
@@ -114,5 +139,6 @@ pub fn subst(
     ensures extends { Extends pool.old pool.new }
     ensures is { IfOk result (λ r. StandsFor pool.new r (subst (tree pool.old t) at (tree pool.old by))) }
 {
-    changed(alloc, pool, &Replace { at, by }, t)
+    let shifted = Table::new(alloc);
+    changed(alloc, pool, &mut Replace { at, by, shifted }, t)
 }

@@ -103,9 +103,63 @@ fn changes_once_for_each_shared_node(rt: HostRuntime) -> Result<(), Fail> {
     let before = pool.len();
     let moved = shift(rt.alloc(), &mut pool, term, 0, 7)?;
     assert!(rt; pool.len() <= before.wrapping_add(61));
-    let back = subst(rt.alloc(), &mut pool, moved, 3, term)?;
-    assert!(rt; pool.len() <= before.wrapping_add(122));
-    assert!(rt; (back.number() as usize) < pool.len());
+    let before = pool.len();
+    let lower = subst(rt.alloc(), &mut pool, moved, 3, term)?;
+    assert!(rt; pool.len() <= before.wrapping_add(61));
+    // Nothing of the term is before variable 9, so that it stays.
+    let before = pool.len();
+    let same = shift(rt.alloc(), &mut pool, lower, 9, 1)?;
+    assert_eq!(rt; same, lower);
+    assert_eq!(rt; pool.len(), before);
+    Ok(())
+}
+
+/// λ-free terms by hand: under the binder of (x : 0) → 0 1, variable 0 is x and 1 is the outer 0.
+#[test]
+fn changes_under_binders(rt: HostRuntime) -> Result<(), Fail> {
+    let mut pool = TermPool::new(rt.alloc())?;
+    let (flag, name) = (Flag::Explicit, NameId::new(0));
+    let bound = pool.add(Node::Var(0))?;
+    let outer = pool.add(Node::Var(1))?;
+    let cod = pool.add(Node::App {
+        flag,
+        fun: bound,
+        arg: outer,
+    })?;
+    let pi = pool.add(Node::Pi {
+        flag,
+        name,
+        dom: bound,
+        cod,
+    })?;
+    // Raised by 2: (x : 2) → 0 3.
+    let raised = shift(rt.alloc(), &mut pool, pi, 0, 2)?;
+    assert!(rt; (raised.number() as usize) < pool.len());
+    let Node::Pi { dom, cod, .. } = pool.node(raised) else {
+        panic!(rt; "no function type");
+    };
+    assert_eq!(rt; pool.node(dom), Node::Var(2));
+    let Node::App { fun, arg, .. } = pool.node(cod) else {
+        panic!(rt; "no application");
+    };
+    assert_eq!(rt;
+        (pool.node(fun), pool.node(arg)),
+        (Node::Var(0), Node::Var(3))
+    );
+    // Variable 5 for variable 0: (x : 5) → 0 6.
+    let by = pool.add(Node::Var(5))?;
+    let replaced = subst(rt.alloc(), &mut pool, pi, 0, by)?;
+    let Node::Pi { dom, cod, .. } = pool.node(replaced) else {
+        panic!(rt; "no function type");
+    };
+    assert_eq!(rt; pool.node(dom), Node::Var(5));
+    let Node::App { fun, arg, .. } = pool.node(cod) else {
+        panic!(rt; "no application");
+    };
+    assert_eq!(rt;
+        (pool.node(fun), pool.node(arg)),
+        (Node::Var(0), Node::Var(6))
+    );
     Ok(())
 }
 
@@ -121,7 +175,9 @@ fn changes_deep_terms(rt: HostRuntime) -> Result<(), Fail> {
             arg: variable,
         })?;
     }
+    let before = pool.len();
     let moved = shift(rt.alloc(), &mut pool, term, 0, 7)?;
-    assert!(rt; (moved.number() as usize) < pool.len());
+    assert_eq!(rt; pool.len(), before.wrapping_add(300_001));
+    assert!(rt; moved != term);
     Ok(())
 }

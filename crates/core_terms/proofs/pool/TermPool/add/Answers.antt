@@ -1,6 +1,6 @@
 use Rattle.std.proofs.Common.{arith}
-use Rattle.core_terms.specs.Pool.{seen, AreBelow, IsAdded}
-use Rattle.core_terms.proofs.Seen.{seen-added, IsAdded-Extends, IsAdded-StandsFor}
+use Rattle.core_terms.specs.Pool.{seen, AreBelow}
+use Rattle.core_terms.proofs.Seen.{IsAdded, seen-added, IsAdded-Extends, IsAdded-StandsFor}
 use Rattle.core_terms.proofs.pool.TermPool.add.Goals as goal
 
 added : (c : goal.After-new) → AreBelow 0 c.self.inside.ids.items c.push.new.items.items × IsAdded c.args.self.now c.args.node c.new.result (seen c.self.inside.ids.items c.push.new.items.items)

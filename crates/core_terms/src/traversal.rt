@@ -1,12 +1,13 @@
 ghost use Rattle.std.specs.Prelude.{◌≡◌, ◌<◌, [], ◌∷◌, ◌++◌, length, IfOk, OnOk};
 ghost use Rattle.core_rules.specs.Substitution.{over};
-ghost use Rattle.core_terms.specs.Pool.{Pool, tree, Extends, StandsFor};
+ghost use Rattle.core_terms.specs.Pool.{Below, Extends, StandsFor, node_tree, tree};
+ghost use Rattle.core_terms.specs.Node.{with_two};
 ghost use Rattle.core_terms.specs.Change.{State, Turn};
 ghost use Rattle.core_terms.specs.declared.change.Task.TheVariants.{Make};
 
 use crate::change::{Change, Task};
 use crate::ids::{NoMemory, TermId, push};
-use crate::node::Parts;
+use crate::node::{Node, Parts};
 use crate::pool::TermPool;
 use crate::table::Table;
 use std::alloc::Global;
@@ -16,13 +17,13 @@ use std::alloc::Global;
 pub(crate) fn changed<C: Change>(
     alloc: Global,
     pool: &mut TermPool,
-    change: &C,
+    change: &mut C,
     t: TermId,
 ) -> Result<TermId, NoMemory>
     requires within { t < length pool.old.trees }
-    requires ready { C.ready change.now pool.old }
+    requires ready { C.ready change.old pool.old }
     ensures extends { Extends pool.old pool.new }
-    ensures is { IfOk result (λ r. StandsFor pool.new r (over (C.term change.now pool.old) 0 (tree pool.old t))) }
+    ensures is { IfOk result (λ r. StandsFor pool.new r (over (C.term change.old pool.old) 0 (tree pool.old t))) }
 {
     let mut table = Table::new(alloc);
     let mut pending = Vec::new(alloc);
@@ -42,13 +43,15 @@ fn turn<C: Change>(
     pool: &mut TermPool,
     table: &mut Table,
     pending: &mut Vec<Task>,
-    change: &C,
+    change: &mut C,
     task: Task,
 ) -> Result<(), NoMemory>
-    requires ready { C.ready change.now pool.old }
-    requires state { State (C.term change.now pool.old) pool.old table.old (pending.old.items ++ task ∷ []) }
+    requires ready { C.ready change.old pool.old }
+    requires state { State (C.term change.old pool.old) pool.old table.old (pending.old.items ++ task ∷ []) }
     ensures extends { Extends pool.old pool.new }
-    ensures turn { OnOk result (Turn (C.term change.now pool.old) pool.old table.old (pending.old.items ++ task ∷ []) pool.new table.new pending.new.items) }
+    ensures same { OnOk result (C.term change.new pool.new ≡ C.term change.old pool.old) }
+    ensures ready { OnOk result (C.ready change.new pool.new) }
+    ensures turn { OnOk result (Turn (C.term change.old pool.old) pool.old table.old (pending.old.items ++ task ∷ []) pool.new table.new pending.new.items) }
 {
     match task {
         Task::Make { t, under } => {
@@ -65,13 +68,13 @@ fn turn<C: Change>(
             second,
             inner,
         } => {
-            let Some(first) = table.get(first, under) else {
+            let Some(made_first) = table.get(first, under) else {
                 unreachable!()
             };
-            let Some(second) = table.get(second, inner) else {
+            let Some(made_second) = table.get(second, inner) else {
                 unreachable!()
             };
-            let made = pool.add(node.with_two(first, second))?;
+            let made = join(pool, t, &node, (first, second), (made_first, made_second))?;
             table.put(t, under, made)
         }
     }
@@ -83,14 +86,16 @@ fn make<C: Change>(
     pool: &mut TermPool,
     table: &mut Table,
     pending: &mut Vec<Task>,
-    change: &C,
+    change: &mut C,
     t: TermId,
     under: u32,
 ) -> Result<(), NoMemory>
-    requires ready { C.ready change.now pool.old }
-    requires state { State (C.term change.now pool.old) pool.old table.old (pending.old.items ++ Make t under ∷ []) }
+    requires ready { C.ready change.old pool.old }
+    requires state { State (C.term change.old pool.old) pool.old table.old (pending.old.items ++ Make t under ∷ []) }
     ensures extends { Extends pool.old pool.new }
-    ensures turn { OnOk result (Turn (C.term change.now pool.old) pool.old table.old (pending.old.items ++ Make t under ∷ []) pool.new table.new pending.new.items) }
+    ensures same { OnOk result (C.term change.new pool.new ≡ C.term change.old pool.old) }
+    ensures ready { OnOk result (C.ready change.new pool.new) }
+    ensures turn { OnOk result (Turn (C.term change.old pool.old) pool.old table.old (pending.old.items ++ Make t under ∷ []) pool.new table.new pending.new.items) }
 {
     let node = pool.node(t);
     match node.parts() {
@@ -128,4 +133,25 @@ fn make<C: Change>(
             push(pending, Task::Make { t: first, under })
         }
     }
+}
+
+/// The node `t` with what was made of its parts, which is `t` itself where they stay.
+fn join(
+    pool: &mut TermPool,
+    t: TermId,
+    node: &Node,
+    parts: (TermId, TermId),
+    made: (TermId, TermId),
+) -> Result<TermId, NoMemory>
+    requires within { t < length pool.old.trees }
+    requires is { tree pool.old t ≡ node_tree (tree pool.old) pool.old.ids node.now }
+    requires parts { with_two parts.0 parts.1 node.now ≡ node.now }
+    requires below { Below (length pool.old.trees) pool.old.ids (with_two made.0 made.1 node.now) }
+    ensures extends { Extends pool.old pool.new }
+    ensures stands { IfOk result (λ r. StandsFor pool.new r (node_tree (tree pool.old) pool.old.ids (with_two made.0 made.1 node.now))) }
+{
+    if made.0 == parts.0 && made.1 == parts.1 {
+        return Ok(t);
+    }
+    pool.add(node.with_two(made.0, made.1))
 }

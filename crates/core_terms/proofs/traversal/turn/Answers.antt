@@ -2,10 +2,10 @@ use Rattle.std.proofs.Common.{sym, ap, ◌∙◌, subst}
 use Rattle.std.proofs.lemmas.Result.{on_ok_weaker}
 use Rattle.core_terms.specs.Table.{found, Has}
 use Rattle.core_terms.specs.Change.{Joins, key}
-use Rattle.core_terms.proofs.Changing.{put-turn, found-turn, made-join, join_state, below_made, None-not-some}
-use Rattle.core_terms.proofs.changed.turn.Goals as goal
-use Rattle.core_terms.proofs.changed.turn.Goals.{In-Join}
-use Rattle.core_terms.proofs.changed.turn.Given.{Over}
+use Rattle.core_terms.proofs.Turns.{put-turn, found-turn, made-join, join_state, below_made, None-not-some}
+use Rattle.core_terms.proofs.traversal.turn.Goals as goal
+use Rattle.core_terms.proofs.traversal.turn.Goals.{In-Join}
+use Rattle.core_terms.proofs.traversal.turn.Given.{Over}
 
 joins : (g : Over) (c : In-Join g) → Joins c.args.pool.now c.in-Join.t c.in-Join.under c.in-Join.node c.in-Join.first c.in-Join.second c.in-Join.inner × (Has c.args.table.now c.in-Join.first c.in-Join.under × Has c.args.table.now c.in-Join.second c.in-Join.inner)
 joins g c = join_state (g.C.Change.term c.args.change.now c.args.pool.now) c.args.pool.now c.args.table.now c.args.pending.now.items c.args.task _ _ _ _ _ _ c.in-Join.is c.requires.state
@@ -21,16 +21,16 @@ unreachable-requires g c = None-not-some (found c.args.table.now c.in-Join.first
 pub unreachable-requires-in_default-get : goal.unreachable-requires-in_default-get
 unreachable-requires-in_default-get g c = None-not-some (found c.args.table.now c.in-Join.second c.in-Join.inner) (sym c.get-in-Join-2.ensures ∙ c.in_default-get.is) (joins g (goal.at.unreachable-requires-in_default-get g c).In-Join).1.1
 
-pub add-requires : goal.add-requires
-add-requires g c =
-    below_made (g.C.Change.term c.args.change.now c.args.pool.now) c.args.pool.now c.args.table.now c.in-Join.t c.in-Join.under c.in-Join.first c.in-Join.second c.in-Join.inner c.in-Some.first c.in-Some-get.second c.in-Join.node c.with_two.result
-    c.requires.state.fits (joins g (goal.at.add-requires g c).In-Join).0 (sym c.get-in-Join.ensures ∙ c.in-Some.is) (sym c.get-in-Join-2.ensures ∙ c.in-Some-get.is) c.with_two.ensures
+pub join-requires-clause-below : goal.join-requires-clause-below
+join-requires-clause-below g c =
+    below_made (g.C.Change.term c.args.change.now c.args.pool.now) c.args.pool.now c.args.table.now c.in-Join.t c.in-Join.under c.in-Join.first c.in-Join.second c.in-Join.inner c.in-Some.made_first c.in-Some-get.made_second c.in-Join.node
+    c.requires.state.fits (joins g (goal.at.join-requires-clause-below g c).In-Join).0 (sym c.get-in-Join.ensures ∙ c.in-Some.is) (sym c.get-in-Join-2.ensures ∙ c.in-Some-get.is)
 
 pub returns-in_ok-made-in-Join-clause-turn : goal.returns-in_ok-made-in-Join-clause-turn
 returns-in_ok-made-in-Join-clause-turn g c =
     let f = g.C.Change.term c.args.change.now c.args.pool.now in
     let j = (joins g (goal.at.returns-in_ok-made-in-Join-clause-turn g c).In-Join).0 in
-    on_ok_weaker c.put.result (put-turn f c.args.pool.now c.args.table.now c.args.pending.now.items c.args.task c.requires.state c.add.new.self c.put.new.self
-    c.in-Join.t c.in-Join.under c.in_ok-made-in-Join.made (ap key c.in-Join.is) c.add.ensures.extends j.within
-    (made-join f c.args.pool.now c.add.new.self c.args.table.now c.in-Join.t c.in-Join.under c.in-Join.first c.in-Join.second c.in-Join.inner c.in-Some.first c.in-Some-get.second c.in_ok-made-in-Join.made c.in-Join.node
-    c.requires.state.fits j (sym c.get-in-Join.ensures ∙ c.in-Some.is) (sym c.get-in-Join-2.ensures ∙ c.in-Some-get.is) (rw (← c.with_two.ensures) c.in_ok-made-in-Join.ensures.stands))) c.put.ensures
+    on_ok_weaker c.put.result (put-turn f c.args.pool.now c.args.table.now c.args.pending.now.items c.args.task c.requires.state c.join.new.pool c.put.new.self
+    c.in-Join.t c.in-Join.under c.in_ok-made-in-Join.made (ap key c.in-Join.is) c.join.ensures.extends j.within
+    (made-join f c.args.pool.now c.join.new.pool c.args.table.now c.in-Join.t c.in-Join.under c.in-Join.first c.in-Join.second c.in-Join.inner c.in-Some.made_first c.in-Some-get.made_second c.in_ok-made-in-Join.made c.in-Join.node
+    c.requires.state.fits j (sym c.get-in-Join.ensures ∙ c.in-Some.is) (sym c.get-in-Join-2.ensures ∙ c.in-Some-get.is) c.in_ok-made-in-Join.ensures.stands)) c.put.ensures

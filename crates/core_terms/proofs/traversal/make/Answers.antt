@@ -1,10 +1,10 @@
 use Rattle.std.proofs.Common.{refl, sym, ◌∙◌, ◌++◌, ◌∷◌, [], ◌<◌, length, rules, subst}
 use Rattle.std.proofs.lemmas.Result.{on_ok_weaker}
-use Rattle.core_terms.proofs.Changing.{put-turn, open-turn, made-alone, made-variable, all_last, three-pushes}
+use Rattle.core_terms.proofs.Turns.{put-turn, open-turn, made-alone, made-variable, all_last, three-pushes}
 use Rattle.core_terms.specs.Change.{IsTask, Turn}
 use Rattle.core_terms.specs.Growth.{Extends-refl}
 use Rattle.core_terms.specs.declared.change.Task.TheVariants.{Make, Join}
-use Rattle.core_terms.proofs.changed.make.Goals as goal
+use Rattle.core_terms.proofs.traversal.make.Goals as goal
 
 pub returns-in_ok-made-in-Variable-clause-turn : goal.returns-in_ok-made-in-Variable-clause-turn
 returns-in_ok-made-in-Variable-clause-turn g c =

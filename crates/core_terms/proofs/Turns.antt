@@ -224,9 +224,8 @@ module _ (m : Results) (t d : ℕ) (n : Node) (a b e : ℕ) where
 -- ---- turns
 
 -- the node with the results of its parts may be added
-pub below_made : (f : ℕ → ℕ → Term) (p : Pool) (m : Results) (t d a b e a' b' : ℕ) (n x : Node) → Fits f m p → Joins p t d n a b e → found m a d ≡ Some a' → found m b e ≡ Some b' → x ≡ with_two a' b' n → Below (length p.trees) p.ids x
-below_made f p m t d a b e a' b' n x fits h ka kb k =
-    subst (Below (length p.trees) p.ids) (sym k) (below_with_two (length p.trees) p.ids n a b h.binds a' b' h.parts (fits.at a d a' ka).1.within (fits.at b e b' kb).1.within)
+pub below_made : (f : ℕ → ℕ → Term) (p : Pool) (m : Results) (t d a b e a' b' : ℕ) (n : Node) → Fits f m p → Joins p t d n a b e → found m a d ≡ Some a' → found m b e ≡ Some b' → Below (length p.trees) p.ids (with_two a' b' n)
+below_made f p m t d a b e a' b' n fits h ka kb = below_with_two (length p.trees) p.ids n a b h.binds a' b' h.parts (fits.at a d a' ka).1.within (fits.at b e b' kb).1.within
 
 -- what is known of a node that is the last to wait
 pub join_state : (f : ℕ → ℕ → Term) (p : Pool) (m : Results) (ws : List Task) (w : Task) (t d : ℕ) (n : Node) (a b e : ℕ) → w ≡ Join t d n a b e → State f p m (ws ++ w ∷ [])
