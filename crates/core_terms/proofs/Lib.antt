@@ -3,3 +3,5 @@ pub mod Seen
 pub mod Entries
 pub mod Turns
 pub mod Shifts
+pub mod Mapped
+pub mod SignatureGrowth

@@ -1,12 +1,11 @@
 -- A shift by nothing, and the results of shifting one term.
-use Rattle.std.specs.Prelude.{◌≡◌, ℕ, ◌<◌, ◌⊎◌, length, Some, Result, Ok, Err, OnOk}
+use Rattle.std.specs.Prelude.{◌≡◌, ℕ, ◌<◌, length, Result, Ok, Err, OnOk}
 use Rattle.std.proofs.Common.{sym, ◌∙◌, subst, ⊎_elim}
-use Rattle.core_rules.specs.Term.{Term}
 use Rattle.core_rules.specs.Substitution.{shift}
 use Rattle.core_rules.proofs.Lifting.{shift_none}
 use Rattle.core_terms.specs.Pool.{Pool, tree, Extends, StandsFor}
 use Rattle.core_terms.specs.Growth.{Extends-tree}
-use Rattle.core_terms.specs.Table.{Results, found, Puts}
+use Rattle.core_terms.specs.Table.{Results, Puts}
 use Rattle.core_terms.specs.Shifted.{IsShifted, IsShifted-stays}
 
 pub shifted-none : (p : Pool) (t from by : ℕ) → by ≡ 0 → t < length p.trees → StandsFor p t (shift (tree p t) from by)

@@ -1,7 +1,6 @@
 -- The results of shifting one term, by the number of binders.
 use Rattle.std.specs.Prelude.{◌≡◌, ℕ, ◌<◌, length, Some}
-use Rattle.std.proofs.Common.{arith, ap, sym, subst}
-use Rattle.core_rules.specs.Term.{Term}
+use Rattle.std.proofs.Common.{arith, sym, subst}
 use Rattle.core_rules.specs.Substitution.{shift}
 use Rattle.core_terms.specs.Pool.{Pool, tree, Extends, StandsFor}
 use Rattle.core_terms.specs.Growth.{Extends-length, Extends-tree, Extends-StandsFor}

@@ -2,7 +2,8 @@ ghost use Rattle.std.specs.Prelude.{◌≡◌, ℕ, ◌<◌, length, IfOk, OnOk}
 ghost use Rattle.core_rules.specs.Term.{Term, Var};
 ghost use Rattle.core_terms.specs.Pool.{Pool, tree, Extends, StandsFor};
 
-use crate::ids::{NoMemory, TermId};
+use crate::ids::TermId;
+use crate::no_memory::NoMemory;
 use crate::node::Node;
 use crate::pool::TermPool;
 use std::alloc::Global;

@@ -1,28 +1,6 @@
-ghost use Rattle.std.specs.Prelude.{◌≡◌, ◌∷◌, [], ◌++◌, OnOk, OnErr};
+ghost use Rattle.std.specs.Prelude.{◌≡◌};
 
-use std::alloc::AllocError;
 use std::marker::Model;
-
-/// Memory is wanting.
-#[derive(Clone, Copy, Debug, PartialEq, Eq, Drop)]
-pub struct NoMemory;
-
-impl From<AllocError> for NoMemory {
-    fn from(_: AllocError) -> NoMemory {
-        NoMemory
-    }
-}
-
-/// Pushes `x`. Where there is no room for it, `x` is let go and the list is as before.
-pub(crate) fn push<T: Drop>(items: &mut Vec<T>, x: T) -> Result<(), NoMemory>
-    ensures ok { OnOk result (items.new.items ≡ items.old.items ++ x ∷ []) }
-    ensures err { OnErr result (items.new.items ≡ items.old.items) }
-{
-    match items.push(x) {
-        Ok(()) => Ok(()),
-        Err(_) => Err(NoMemory),
-    }
-}
 
 /// The id of a term of a pool. Contracts see its number.
 #[derive(Clone, Copy, Debug, PartialEq, Eq)]

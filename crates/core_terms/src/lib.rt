@@ -7,6 +7,7 @@
 mod change;
 mod ids;
 mod names;
+mod no_memory;
 mod node;
 mod pool;
 mod row;
@@ -16,8 +17,9 @@ mod table;
 mod telescope;
 mod traversal;
 
-pub use ids::{ConId, DefId, FamId, FieldId, MetaId, NameId, NoMemory, TermId};
+pub use ids::{ConId, DefId, FamId, FieldId, MetaId, NameId, TermId};
 pub use names::Names;
+pub use no_memory::NoMemory;
 pub use node::{Node, Parts};
 pub use pool::{Args, PoolMark, TermPool};
 pub use row::Row;

@@ -1,6 +1,7 @@
 ghost use Rattle.std.specs.Prelude.{◌≡◌, ◌<◌, ◌^◌, [], ◌∷◌, ◌++◌, length, take, slice_get, Some, IfOk, OnErr};
 
-use crate::ids::{NameId, NoMemory, push};
+use crate::ids::NameId;
+use crate::no_memory::NoMemory;
 use std::alloc::Global;
 use std::marker::Model;
 
@@ -44,7 +45,7 @@ impl Names {
             return Err(NoMemory);
         }
         let text = String::from_str(self.alloc, text)?;
-        push(&mut self.texts, text)?;
+        self.texts.push(text)?;
         Ok(NameId::new(next))
     }
 

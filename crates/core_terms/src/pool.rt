@@ -2,7 +2,8 @@ ghost use Rattle.std.specs.Prelude.{◌≡◌, ℕ, ◌-◌, ◌<◌, length, If
 ghost use Rattle.std.specs.List.{AllByRecursion};
 ghost use Rattle.core_terms.specs.Pool.{Pool, tree, row, node_tree, no_terms, Below, IsRow, Extends, StandsFor, Marks, cut_to};
 
-use crate::ids::{NoMemory, TermId, push};
+use crate::ids::TermId;
+use crate::no_memory::NoMemory;
 use crate::node::Node;
 use std::alloc::Global;
 use std::marker::Model;
@@ -99,7 +100,7 @@ impl TermPool {
         let Ok(at) = u32::try_from(self.nodes.len()) else {
             return Err(NoMemory);
         };
-        push(&mut self.nodes, node)?;
+        self.nodes.push(node)?;
         Ok(TermId::new(at))
     }
 

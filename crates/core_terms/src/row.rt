@@ -1,10 +1,10 @@
-ghost use Rattle.std.specs.Prelude.{◌≡◌, IfOk, length};
+ghost use Rattle.std.specs.Prelude.{◌≡◌, ◌↔◌, [], IfOk, IsTrue, length};
 
-use crate::ids::NoMemory;
+use crate::no_memory::NoMemory;
 use std::marker::Model;
 
 /// A list in a type that holds terms. Contracts see the list of its items.
-#[derive(Drop)]
+#[derive(Debug, Drop)]
 pub struct Row<T> {
     items: Vec<T>,
 }
@@ -43,6 +43,12 @@ impl<T> Row<T> {
         ensures { result ≡ length self.now }
     {
         self.items.len()
+    }
+
+    pub fn is_empty(&self) -> bool
+        ensures { IsTrue result ↔ (self.now ≡ []) }
+    {
+        self.items.is_empty()
     }
 }
 

@@ -5,7 +5,8 @@ ghost use Rattle.core_terms.specs.Growth.{subst-stays};
 ghost use Rattle.core_terms.specs.Shifted.{IsShifted, IsShifted-stays};
 
 use crate::change::Change;
-use crate::ids::{NoMemory, TermId};
+use crate::ids::TermId;
+use crate::no_memory::NoMemory;
 use crate::node::Node;
 use crate::pool::TermPool;
 use crate::table::Table;

@@ -2,7 +2,8 @@ ghost use Rattle.std.specs.Prelude.{◌≡◌, ◌<◌, [], ◌∷◌, ◌++◌,
 ghost use Rattle.core_rules.specs.Signature.{def_decl, defs};
 ghost use Rattle.core_terms.specs.Signature.{decl_of, entry_decl};
 
-use crate::ids::{DefId, NameId, NoMemory, TermId, push};
+use crate::ids::{DefId, NameId, TermId};
+use crate::no_memory::NoMemory;
 use std::alloc::Global;
 use std::marker::Model;
 
@@ -84,14 +85,12 @@ impl Signature {
             return Err(NoMemory);
         }
         let CoreDecl::Postulate { name, ty } = *decl;
-        push(
-            &mut self.entries,
-            DefEntry {
-                name,
-                ty,
-                state: DefState::Postulate,
-            },
-        )
+        self.entries.push(DefEntry {
+            name,
+            ty,
+            state: DefState::Postulate,
+        })?;
+        Ok(())
     }
 
     pub fn def(&self, d: DefId) -> &DefEntry

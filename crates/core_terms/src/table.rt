@@ -1,7 +1,8 @@
 ghost use Rattle.std.specs.Prelude.{◌≡◌, ℕ, Some, None, OnOk};
 ghost use Rattle.core_terms.specs.Table.{found, Puts};
 
-use crate::ids::{NoMemory, TermId};
+use crate::ids::TermId;
+use crate::no_memory::NoMemory;
 use std::alloc::Global;
 use std::collections::HashMap;
 use std::marker::Model;
@@ -38,9 +39,7 @@ impl Table {
     pub(crate) fn put(&mut self, t: TermId, under: u32, made: TermId) -> Result<(), NoMemory>
         ensures { OnOk result (Puts self.old t under made self.new) }
     {
-        match self.made.insert((t.number(), under), made) {
-            Ok(_) => Ok(()),
-            Err(_) => Err(NoMemory),
-        }
+        self.made.insert((t.number(), under), made)?;
+        Ok(())
     }
 }

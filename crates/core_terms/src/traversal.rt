@@ -6,7 +6,8 @@ ghost use Rattle.core_terms.specs.Change.{State, Turn};
 ghost use Rattle.core_terms.specs.declared.change.Task.TheVariants.{Make};
 
 use crate::change::{Change, Task};
-use crate::ids::{NoMemory, TermId, push};
+use crate::ids::TermId;
+use crate::no_memory::NoMemory;
 use crate::node::{Node, Parts};
 use crate::pool::TermPool;
 use crate::table::Table;
@@ -27,7 +28,7 @@ pub(crate) fn changed<C: Change>(
 {
     let mut table = Table::new(alloc);
     let mut pending = Vec::new(alloc);
-    push(&mut pending, Task::Make { t, under: 0 })?;
+    pending.push(Task::Make { t, under: 0 })?;
     while let Some(task) = pending.pop() {
         turn(alloc, pool, &mut table, &mut pending, change, task)?;
     }
@@ -112,25 +113,20 @@ fn make<C: Change>(
             let Some(inner) = under.checked_add(binds) else {
                 return Err(NoMemory);
             };
-            push(
-                pending,
-                Task::Join {
-                    t,
-                    under,
-                    node,
-                    first,
-                    second,
-                    inner,
-                },
-            )?;
-            push(
-                pending,
-                Task::Make {
-                    t: second,
-                    under: inner,
-                },
-            )?;
-            push(pending, Task::Make { t: first, under })
+            pending.push(Task::Join {
+                t,
+                under,
+                node,
+                first,
+                second,
+                inner,
+            })?;
+            pending.push(Task::Make {
+                t: second,
+                under: inner,
+            })?;
+            pending.push(Task::Make { t: first, under })?;
+            Ok(())
         }
     }
 }

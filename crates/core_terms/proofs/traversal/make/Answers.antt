@@ -3,7 +3,7 @@ use Rattle.std.proofs.lemmas.Result.{on_ok_weaker}
 use Rattle.core_terms.proofs.Turns.{put-turn, open-turn, made-alone, made-variable, all_last, three-pushes}
 use Rattle.core_terms.specs.Change.{IsTask, Turn}
 use Rattle.core_terms.specs.Growth.{Extends-refl}
-use Rattle.core_terms.specs.declared.change.Task.TheVariants.{Make, Join}
+use Rattle.core_terms.specs.declared.change.Task.TheVariants.{Make}
 use Rattle.core_terms.proofs.traversal.make.Goals as goal
 
 pub returns-in_ok-made-in-Variable-clause-turn : goal.returns-in_ok-made-in-Variable-clause-turn
@@ -23,14 +23,11 @@ returns-in-Alone-clause-turn g c =
     c.args.t c.args.under c.args.t refl (Extends-refl c.args.pool.now) l
     (made-alone f c.args.pool.now c.args.t c.args.under c.node-node.result l c.node-node.ensures.is (sym c.parts.ensures ∙ c.in-Alone.is))) c.put-in-Alone.ensures
 
-pub returns-in_ok-push-in-Two-2-clause-turn : goal.returns-in_ok-push-in-Two-2-clause-turn
-returns-in_ok-push-in-Two-2-clause-turn g c =
+pub returns-in_ok-push-in-Two-3-clause-turn : goal.returns-in_ok-push-in-Two-3-clause-turn
+returns-in_ok-push-in-Two-3-clause-turn g c =
     let f = g.C.Change.term c.args.change.now c.args.pool.now in
     let ws = c.args.pending.now.items in
-    let join = Join c.args.t c.args.under c.node-node.result c.in-Two.first c.in-Two.second c.in-Some.inner in
     let opened = open-turn f c.args.pool.now c.args.table.now ws c.args.t c.args.under c.node-node.result c.in-Two.first c.in-Two.second c.in-Some.inner c.in-Two.binds c.requires.state
     c.node-node.ensures.below c.node-node.ensures.is (sym c.parts.ensures ∙ c.in-Two.is) (search rules) in
-    on_ok_weaker c.push-in-Two-2.result
-    (λ k. subst (λ vs. Turn f c.args.pool.now c.args.table.now (ws ++ Make c.args.t c.args.under ∷ []) c.args.pool.now c.args.table.now vs)
-    (sym (three-pushes ws c.push.new.items.items c.push-in-Two.new.items.items c.push-in-Two-2.new.items.items join (Make c.in-Two.second c.in-Some.inner) (Make c.in-Two.first c.args.under)
-    c.in_ok-push-in-Two.ensures.ok c.in_ok-push-in-Two-2.ensures.ok k)) opened) c.push-in-Two-2.ensures.ok
+    subst (λ vs. Turn f c.args.pool.now c.args.table.now (ws ++ Make c.args.t c.args.under ∷ []) c.args.pool.now c.args.table.now vs)
+    (sym (three-pushes ws _ _ _ _ _ _ c.in_ok-push-in-Two.ensures.items c.in_ok-push-in-Two-2.ensures.items c.in_ok-push-in-Two-3.ensures.items)) opened

@@ -1,5 +1,7 @@
-use Rattle.std.proofs.Common.{sym, ap, ◌∙◌, subst}
+use Rattle.std.proofs.Common.{Some, ◌≡◌, sym, ap, ◌∙◌, subst}
 use Rattle.std.proofs.lemmas.Result.{on_ok_weaker}
+use Rattle.core_rules.specs.Substitution.{over}
+use Rattle.core_terms.specs.Pool.{tree, StandsFor}
 use Rattle.core_terms.specs.Table.{found, Has}
 use Rattle.core_terms.specs.Change.{Joins, key}
 use Rattle.core_terms.proofs.Turns.{put-turn, found-turn, made-join, join_state, below_made, None-not-some}
@@ -30,7 +32,10 @@ pub returns-in_ok-made-in-Join-clause-turn : goal.returns-in_ok-made-in-Join-cla
 returns-in_ok-made-in-Join-clause-turn g c =
     let f = g.C.Change.term c.args.change.now c.args.pool.now in
     let j = (joins g (goal.at.returns-in_ok-made-in-Join-clause-turn g c).In-Join).0 in
+    let first : found c.args.table.now c.in-Join.first c.in-Join.under ≡ Some c.in-Some.made_first = cc (c.get-in-Join.ensures, c.in-Some.is) in
+    let second : found c.args.table.now c.in-Join.second c.in-Join.inner ≡ Some c.in-Some-get.made_second = cc (c.get-in-Join-2.ensures, c.in-Some-get.is) in
+    let made : StandsFor c.join.new.pool c.in_ok-made-in-Join.made (over f c.in-Join.under (tree c.args.pool.now c.in-Join.t)) =
+    made-join f c.args.pool.now c.join.new.pool c.args.table.now c.in-Join.t c.in-Join.under c.in-Join.first c.in-Join.second c.in-Join.inner c.in-Some.made_first c.in-Some-get.made_second c.in_ok-made-in-Join.made c.in-Join.node
+    c.requires.state.fits j first second c.in_ok-made-in-Join.ensures.stands in
     on_ok_weaker c.put.result (put-turn f c.args.pool.now c.args.table.now c.args.pending.now.items c.args.task c.requires.state c.join.new.pool c.put.new.self
-    c.in-Join.t c.in-Join.under c.in_ok-made-in-Join.made (ap key c.in-Join.is) c.join.ensures.extends j.within
-    (made-join f c.args.pool.now c.join.new.pool c.args.table.now c.in-Join.t c.in-Join.under c.in-Join.first c.in-Join.second c.in-Join.inner c.in-Some.made_first c.in-Some-get.made_second c.in_ok-made-in-Join.made c.in-Join.node
-    c.requires.state.fits j (sym c.get-in-Join.ensures ∙ c.in-Some.is) (sym c.get-in-Join-2.ensures ∙ c.in-Some-get.is) c.in_ok-made-in-Join.ensures.stands)) c.put.ensures
+    c.in-Join.t c.in-Join.under c.in_ok-made-in-Join.made (ap key c.in-Join.is) c.join.ensures.extends j.within made) c.put.ensures
