@@ -1,0 +1,31 @@
+//! Shared core terms by id, the texts of their names, and the signature of the declarations that they speak of.
+//!
+//! A [`TermPool`] keeps each node once and names it by a [`TermId`]; contracts see the tree that an id stands for.
+//! Everything above works on ids, and reads in contracts as if it worked on trees.
+#![tactic(auto)]
+
+mod change;
+mod ids;
+mod names;
+mod no_memory;
+mod node;
+mod pool;
+mod row;
+mod shifting;
+mod signature;
+mod table;
+mod telescope;
+mod traversal;
+
+pub use ids::{ConId, DefId, FamId, FieldId, MetaId, NameId, TermId};
+pub use names::Names;
+pub use no_memory::NoMemory;
+pub use node::{Node, Parts};
+pub use pool::{Args, PoolMark, TermPool};
+pub use row::Row;
+pub use shifting::{shift, subst};
+pub use signature::{CoreDecl, DefEntry, DefState, SigMark, Signature};
+pub use telescope::{Entry, Limits, Telescope};
+
+#[cfg(test)]
+mod tests;

@@ -1,0 +1,45 @@
+ghost use Rattle.std.specs.Prelude.{◌≡◌, ℕ, Some, None, OnOk};
+ghost use Rattle.core_terms.specs.Table.{found, Puts};
+
+use crate::ids::TermId;
+use crate::no_memory::NoMemory;
+use std::alloc::Global;
+use std::collections::HashMap;
+use std::marker::Model;
+
+/// What one call has made of each node, by the node's id and the number of binders around it.
+#[derive(Drop)]
+pub(crate) struct Table {
+    made: HashMap<(u32, u32), TermId>,
+}
+
+impl Model for Table {
+    ghost use Rattle.std.specs.Prelude.{ℕ, List};
+
+    ghost Value = { List ((ℕ × ℕ) × ℕ) };
+
+    ghost view = { λ m. m.made.entries };
+}
+
+impl Table {
+    pub(crate) fn new(alloc: Global) -> Table
+        ensures { (t d : ℕ) → found result t d ≡ None }
+    {
+        Table {
+            made: HashMap::new(alloc),
+        }
+    }
+
+    pub(crate) fn get(&self, t: TermId, under: u32) -> Option<TermId>
+        ensures { result ≡ found self.now t under }
+    {
+        self.made.get(&(t.number(), under)).copied()
+    }
+
+    pub(crate) fn put(&mut self, t: TermId, under: u32, made: TermId) -> Result<(), NoMemory>
+        ensures { OnOk result (Puts self.old t under made self.new) }
+    {
+        self.made.insert((t.number(), under), made)?;
+        Ok(())
+    }
+}
