@@ -3,10 +3,16 @@
 #![tactic(auto)]
 
 mod cursor;
+mod fail_plan;
 mod files;
 mod many;
+mod memory_files;
+mod memory_sink;
+mod memory_source;
 mod no_memory;
 mod place;
+mod real_files;
+mod real_streams;
 mod sink;
 mod source;
 mod text;
@@ -14,8 +20,13 @@ mod text;
 pub use cursor::{CharSet, Cursor, is_white};
 pub use files::{FileRead, FileWrite, Files};
 pub use many::Many;
+pub use memory_files::{MemoryFiles, SureFiles};
+pub use memory_sink::{MemorySink, SureSink};
+pub use memory_source::{MemorySource, SureSource};
 pub use no_memory::NoMemory;
 pub use place::{Pos, Span};
+pub use real_files::RealFiles;
+pub use real_streams::{RealSink, RealSource};
 pub use sink::{PutError, Sink};
 pub use source::{Failed, Source};
 pub use text::Text;

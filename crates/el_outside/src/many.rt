@@ -65,3 +65,15 @@ impl<T: Copy> Many<T> {
         })
     }
 }
+
+#[cfg(test)]
+mod tests {
+    use super::*;
+
+    #[test]
+    fn copies(rt: HostRuntime) -> Result<(), NoMemory> {
+        let many = Many::from_vec(Vec::from_slice(rt.alloc(), &[3u32, 5])?).copy(rt.alloc())?;
+        assert!(rt; many.as_slice() == [3, 5].as_slice() && many.len() == 2 && !many.is_empty());
+        Ok(())
+    }
+}

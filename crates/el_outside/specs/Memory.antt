@@ -1,0 +1,49 @@
+-- What the forms in memory hold.
+use Rattle.std.specs.Prelude.{ℕ, List, length, min, refl}
+use Rattle.std.specs.Coded.{Coded, code_by, coded×, coded_ℕ, coded_list}
+use Rattle.std.specs.FinMap as map
+use Rattle.el_outside.specs.Planned.{Plan}
+use Rattle.el_outside.specs.Stored.{FileMap}
+
+-- a source: the bytes that are left, and the most that one call gives
+pub record Supply : Type 0 where
+  pub left : List ℕ
+  pub most : ℕ
+
+-- how many bytes a call gives that has this much room
+abbrev pub given : Supply → ℕ → ℕ
+given s room = min (min (length s.left) room) s.most
+
+pub record FailingSupply : Type 0 where
+  pub supply : Supply
+  pub plan : Plan
+
+-- a sink: the bytes that were put, and the most that one call takes
+pub record Heap : Type 0 where
+  pub bytes : List ℕ
+  pub most : ℕ
+
+pub record FailingHeap : Type 0 where
+  pub heap : Heap
+  pub plan : Plan
+
+-- files: the bytes under each name, and how often a read has found nothing
+pub record Shelf : Type 0 where
+  pub map : FileMap
+  pub misses : ℕ
+
+pub record FailingShelf : Type 0 where
+  pub shelf : Shelf
+  pub plan : Plan
+
+abbrev pub map_code : Coded FileMap
+map_code = map.code (coded_list coded_ℕ) (coded_list coded_ℕ)
+
+abbrev pub shelf_code : Coded Shelf
+shelf_code = code_by (FileMap × ℕ) (coded× map_code coded_ℕ) (λ s. (s.map, s.misses)) (λ p. record { map = p.0; misses = p.1 }) (λ _. refl)
+
+abbrev pub plan_code : Coded Plan
+plan_code = code_by (List ℕ × (ℕ × ℕ)) (coded× (coded_list coded_ℕ) (coded× coded_ℕ coded_ℕ)) (λ p. (p.fails, (p.calls, p.faults))) (λ p. record { fails = p.0; calls = p.1.0; faults = p.1.1 }) (λ _. refl)
+
+abbrev pub failing_shelf_code : Coded FailingShelf
+failing_shelf_code = code_by (Shelf × Plan) (coded× shelf_code plan_code) (λ s. (s.shelf, s.plan)) (λ p. record { shelf = p.0; plan = p.1 }) (λ _. refl)

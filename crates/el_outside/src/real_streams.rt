@@ -1,0 +1,87 @@
+use crate::{Failed, PutError, Sink, Source};
+use std::io::{Read, Write};
+
+/// A reader of std, as standard input. It counts each error.
+#[derive(Drop)]
+pub struct RealSource<R> {
+    inner: R,
+    faults: u64,
+}
+
+impl<R> RealSource<R> {
+    pub fn new(inner: R) -> RealSource<R> {
+        RealSource { inner, faults: 0 }
+    }
+}
+
+impl<R: Read> Source for RealSource<R> {
+    ghost left = { λ s. R.remaining s.inner };
+
+    ghost faults = { λ s. s.faults };
+
+    fn take(&mut self, into: &mut [u8]) -> Result<usize, Failed> {
+        match self.inner.read(into) {
+            Ok(n) => Ok(n),
+            Err(_) => {
+                self.faults = self.faults.saturating_add(1);
+                Err(Failed)
+            }
+        }
+    }
+}
+
+/// A writer of std, as standard output. It counts each error, and a write of no byte as one.
+#[derive(Drop)]
+pub struct RealSink<W> {
+    inner: W,
+    faults: u64,
+}
+
+impl<W> RealSink<W> {
+    pub fn new(inner: W) -> RealSink<W> {
+        RealSink { inner, faults: 0 }
+    }
+}
+
+impl<W: Write> Sink for RealSink<W> {
+    ghost written = { λ s. W.contents s.inner };
+
+    ghost faults = { λ s. s.faults };
+
+    fn put(&mut self, bytes: &[u8]) -> Result<usize, PutError> {
+        match self.inner.write(bytes) {
+            Ok(n) if n > 0 => Ok(n),
+            _ => {
+                self.faults = self.faults.saturating_add(1);
+                Err(PutError::Failed)
+            }
+        }
+    }
+}
+
+#[cfg(test)]
+mod tests {
+    use super::*;
+    use std::{fs, io};
+
+    // What is put into a file is taken from it again. A file that is open for reading takes nothing,
+    // and a folder gives nothing.
+    #[test]
+    fn puts_and_takes(rt: HostRuntime) -> io::Result<()> {
+        let name = "el_outside_real_streams.txt";
+        let mut sink = RealSink::new(fs::create(&rt, name)?);
+        assert_eq!(rt; sink.put(b"abc"), Ok(3));
+        let mut source = RealSource::new(fs::open(&rt, name)?);
+        let mut buffer = [0u8; 2];
+        assert_eq!(rt; source.take(&mut buffer), Ok(2));
+        assert!(rt; &buffer == b"ab");
+        assert_eq!(rt; source.take(&mut buffer), Ok(1));
+        assert_eq!(rt; buffer[0], b'c');
+        assert_eq!(rt; source.take(&mut buffer), Ok(0));
+        let mut closed = RealSink::new(fs::open(&rt, name)?);
+        assert_eq!(rt; closed.put(b"a"), Err(PutError::Failed));
+        let mut folder = RealSource::new(fs::open(&rt, ".")?);
+        assert_eq!(rt; folder.take(&mut buffer), Err(Failed));
+        fs::remove_file(&rt, name)
+    }
+}
