@@ -1,12 +1,12 @@
 -- Numbers in digits, and the text behind `Set`.
-use Rattle.std.proofs.Common.{◌≡◌, ℕ, suc, ◌+◌, ◌-◌, ◌*◌, ◌<◌, ◌≤◌, Bool, true, false, List, [], ◌∷◌, length, get_or, drop, take, min, eqb, Some, None, refl, sym, ap, ◌∙◌, arith}
+use Rattle.std.proofs.Common.{◌≡◌, ℕ, suc, ◌+◌, ◌-◌, ◌*◌, ◌<◌, ◌≤◌, true, false, List, [], ◌∷◌, length, get_or, drop, take, min, eqb, Some, None, refl, sym, ap, ◌∙◌, arith}
 use Rattle.std.specs.Str.{chars, bytes_eq, encode_utf8_all, IsUtf8, IsCharBoundary}
 use Rattle.std.proofs.lemmas.Str.{encodes-chars, chars-nil, chars_past_char, IsCharBoundary-after_ascii}
 use Rattle.std.proofs.lemmas.Bool.Decides.{nat_tests}
 use Rattle.std.proofs.lemmas.Slice.Eq.{bytes_eq-Decides}
 use Rattle.std.proofs.lemmas.List.{at_drop_more, drop_all}
 use lib.Utf8.{encode}
-use Rattle.std.specs.Prelude.{◌++◌, not, ◌||◌, ◌==◌}
+use Rattle.std.specs.Prelude.{◌++◌, ◌==◌}
 use Rattle.agda_lexer.specs.Runs.{is_short, number_from, is_number, level}
 
 one_more : (n : ℕ) → eqb (suc n) 0 ≡ false

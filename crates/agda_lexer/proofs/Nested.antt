@@ -1,10 +1,10 @@
 -- A turn of the loop that looks for the end of a comment or a hole.
-use Rattle.std.proofs.Common.{◌≡◌, ℕ, ◌+◌, ◌-◌, ◌≤◌, Bool, true, false, eqb, List, [], ◌∷◌, Option, refl, ap, ◌∙◌, arith, drop, ◌==◌, ◌&&◌}
+use Rattle.std.proofs.Common.{◌≡◌, ℕ, ◌+◌, ◌-◌, ◌≤◌, true, false, eqb, List, [], ◌∷◌, Option, refl, ap, ◌∙◌, arith, drop, ◌==◌, ◌&&◌}
 use Rattle.std.proofs.lemmas.Bool.Decides.{nat_tests}
 use Rattle.std.proofs.lemmas.Str.{len_utf8_bounds}
 use Rattle.el_outside.specs.Place.{Place, Rest, after, next, sees}
 use Rattle.agda_lexer.specs.Pieces.{close_of}
-use Rattle.agda_lexer.proofs.Steps.{rest, next_is, whole}
+use Rattle.agda_lexer.proofs.Steps.{rest, whole}
 
 -- what is left to read is the same, and the place has moved on
 pub record Goes (mark depth : ℕ) (r : Rest) (depth' : ℕ) (r' : Rest) : Type 0 where

@@ -1,5 +1,5 @@
 -- One character further.
-use Rattle.std.proofs.Common.{◌≡◌, ℕ, List, [], ◌∷◌, refl, sym, ap, ◌∙◌, drop}
+use Rattle.std.proofs.Common.{◌≡◌, ℕ, List, ◌∷◌, refl, ap, ◌∙◌}
 use Rattle.el_outside.specs.Place.{Place, Rest, after, next}
 
 abbrev pub rest : List ℕ → Place → Rest

@@ -1,5 +1,5 @@
 -- The table of the code is that of the definition.
-use Rattle.std.proofs.Common.{◌≡◌, ℕ, List, map, Some, None, Ok, Result, refl, sym, ap, ◌∙◌}
+use Rattle.std.proofs.Common.{◌≡◌, ℕ, List, map, Some, None, Ok, Result, refl, ap, ◌∙◌}
 use Rattle.std.specs.Char.{encode_utf8}
 use Rattle.agda_lexer.specs.declared.run.TheConstants.{FIXED_RUNS}
 use Rattle.agda_lexer.specs.declared.token.TokenKind.{TokenKind}

@@ -1,16 +1,15 @@
 -- The loop over the pieces of a text.
-use Rattle.std.proofs.Common.{◌≡◌, ℕ, zero, suc, ◌+◌, ◌≤◌, Bool, true, false, cond, eqb, List, [], ◌∷◌, ◌++◌, length, Option, Some, None, Result, Ok, Err, refl, sym, ap, ◌∙◌, append_assoc, arith}
+use Rattle.std.proofs.Common.{◌≡◌, ℕ, zero, suc, ◌≤◌, Bool, true, false, cond, eqb, List, [], ◌∷◌, ◌++◌, length, Option, Some, None, Ok, Err, refl, sym, ap, ◌∙◌, append_assoc, arith}
 use Rattle.std.proofs.lemmas.List.{append-nil}
-use Rattle.std.specs.Str.{chars}
-use Rattle.el_outside.specs.Place.{Place, Rest, next, pos, start, origin, after_mark}
+use Rattle.el_outside.specs.Place.{Place, Rest, pos, start, origin, after_mark}
 use Rattle.el_outside.specs.declared.Pos.{Pos}
 use Rattle.agda_lexer.specs.declared.token.LexKind.{LexKind}
 use Rattle.agda_lexer.specs.declared.token.Token.{Token}
 use Rattle.agda_lexer.specs.declared.token.Lexed.{Lexed}
 use Rattle.agda_lexer.specs.declared.piece.Piece.{Piece}
 use Rattle.agda_lexer.specs.declared.piece.Piece.TheVariants as piece
-use Rattle.agda_lexer.specs.Pieces.{Reading, piece_at, is_run}
-use Rattle.agda_lexer.specs.Tokens.{Placed, Cut, nothing, goes_on, turn, cut_from, cut_of, with_token, or_remark, tokens_of, remark_of, outcome, lex_of}
+use Rattle.agda_lexer.specs.Pieces.{piece_at, is_run}
+use Rattle.agda_lexer.specs.Tokens.{Placed, Cut, nothing, goes_on, cut_from, with_token, or_remark, tokens_of, remark_of, outcome}
 use Rattle.agda_lexer.specs.Found.{or_first, added}
 use Rattle.agda_lexer.proofs.Takes.{takes}
 

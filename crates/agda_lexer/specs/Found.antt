@@ -1,5 +1,5 @@
 -- What the loop over the pieces of a text has found.
-use Rattle.std.specs.Prelude.{List, [], ◌∷◌, ◌++◌, Option, Some, None}
+use Rattle.std.specs.Prelude.{[], ◌∷◌, ◌++◌, Option, Some, None}
 use Rattle.el_outside.specs.declared.Pos.{Pos}
 use Rattle.el_outside.specs.declared.Span.{Span}
 use Rattle.agda_lexer.specs.declared.token.Lexed.{Lexed}

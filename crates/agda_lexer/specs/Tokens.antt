@@ -1,9 +1,8 @@
 -- The tokens of a text: it is cut into pieces from its beginning on, up to the first place without one.
-use Rattle.std.specs.Prelude.{◌≡◌, ℕ, zero, suc, Bool, false, List, [], ◌∷◌, ◌++◌, length, Option, Some, None, Result, Ok, Err}
+use Rattle.std.specs.Prelude.{◌≡◌, ℕ, zero, suc, Bool, false, List, [], ◌∷◌, length, Option, Some, None, Result, Ok, Err}
 use Rattle.std.specs.Str.{chars}
 use Rattle.el_outside.specs.Place.{Place, Rest, start, pos}
 use Rattle.el_outside.specs.declared.Pos.{Pos}
-use Rattle.el_outside.specs.declared.Span.{Span}
 use Rattle.agda_lexer.specs.declared.token.TokenKind.{TokenKind}
 use Rattle.agda_lexer.specs.declared.token.Token.{Token}
 use Rattle.agda_lexer.specs.declared.token.Lexed.{Lexed}

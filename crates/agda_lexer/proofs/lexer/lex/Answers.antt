@@ -1,4 +1,3 @@
-use Rattle.std.proofs.Common.{refl, ◌∙◌}
 use Rattle.agda_lexer.specs.Tokens.{lex_of}
 use Rattle.agda_lexer.proofs.Turns.{begins, stops, fails, goes}
 use Rattle.agda_lexer.proofs.lexer.lex.Goals as goal

@@ -1,4 +1,4 @@
-use Rattle.std.proofs.Common.{◌≡◌, ◌+◌, ◌≤◌, length}
+use Rattle.std.proofs.Common.{◌≡◌, ◌≤◌, length}
 use Rattle.agda_lexer.specs.Pieces.{close_of}
 use Rattle.agda_lexer.proofs.piece.pass_close.Given as goal
 

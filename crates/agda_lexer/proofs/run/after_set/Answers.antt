@@ -1,5 +1,4 @@
-use Rattle.std.proofs.Common.{sym, ◌∙◌, ap, take}
-use Rattle.std.specs.Str.{bytes_eq}
+use Rattle.std.proofs.Common.{sym}
 use Rattle.agda_lexer.proofs.Levels.{set_border}
 use Rattle.agda_lexer.proofs.run.after_set.Goals as goal
 

@@ -1,5 +1,3 @@
-use Rattle.std.proofs.Common.{◌≡◌, map, Some, None, sym, ◌∙◌, ap}
-use Rattle.agda_lexer.specs.Runs.{lookup, fixed_runs, or_level, or_name, set_level, run_kind}
 use Rattle.agda_lexer.proofs.Table.{found_is, not_found}
 use Rattle.agda_lexer.proofs.run.run_kind.Goals as goal
 
