@@ -1,5 +1,5 @@
 -- Layout: the blocks of a file by columns, as a function on its tokens.
-use Rattle.std.specs.Prelude.{◌≡◌, ℕ, suc, ◌+◌, Bool, true, false, ◌||◌, ◌&&◌, if◌then◌else◌, ◌==◌, nat_lt, List, [], ◌∷◌, ◌++◌, map, Result, Ok, Err}
+use Rattle.std.specs.Prelude.{◌≡◌, ℕ, ◌+◌, Bool, true, false, ◌&&◌, if◌then◌else◌, ◌==◌, nat_lt, List, [], ◌∷◌, ◌++◌, map, Result, Ok, Err}
 use Rattle.el_outside.specs.declared.Pos.{Pos}
 use Rattle.agda_lexer.specs.declared.Token.{Token}
 use Rattle.agda_lexer.specs.declared.TokenKind.{TokenKind}

@@ -1,5 +1,5 @@
 -- What the code's state shows: its vector of columns has the inner block at its end.
-use Rattle.std.specs.Prelude.{ℕ, List, reverse}
+use Rattle.std.specs.Prelude.{reverse}
 use Rattle.agda_layout.specs.Blocks.{State}
 use Rattle.agda_layout.specs.declared.state.State.{State as Code}
 

@@ -3,5 +3,6 @@ pub mod Table
 pub mod Levels
 pub mod Words
 pub mod Nested
-pub mod Takes
+pub mod Further
 pub mod Turns
+pub mod Places

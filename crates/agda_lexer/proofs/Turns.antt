@@ -11,7 +11,7 @@ use Rattle.agda_lexer.specs.declared.piece.Piece.TheVariants as piece
 use Rattle.agda_lexer.specs.Pieces.{piece_at, is_run}
 use Rattle.agda_lexer.specs.Tokens.{Placed, Cut, nothing, goes_on, cut_from, with_token, or_remark, tokens_of, remark_of, outcome}
 use Rattle.agda_lexer.specs.Found.{or_first, added}
-use Rattle.agda_lexer.proofs.Takes.{takes}
+use Rattle.agda_lexer.proofs.Further.{takes}
 
 abbrev pub found_in : List Placed → Lexed
 found_in ps = record { tokens = tokens_of ps; comment = remark_of ps }

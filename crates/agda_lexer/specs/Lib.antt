@@ -3,3 +3,4 @@ pub mod Runs
 pub mod Pieces
 pub mod Tokens
 pub mod Found
+pub mod Laws

@@ -1,4 +1,4 @@
-use Rattle.agda_lexer.proofs.Takes.{moves}
+use Rattle.agda_lexer.proofs.Further.{moves}
 use Rattle.agda_lexer.proofs.piece.next_piece.Goals as goal
 
 pub returns-clause-takes : goal.returns-clause-takes
