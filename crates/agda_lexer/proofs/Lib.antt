@@ -6,3 +6,5 @@ pub mod Nested
 pub mod Further
 pub mod Turns
 pub mod Places
+pub mod Fits
+pub mod Walks

@@ -21,7 +21,7 @@ scalars_apart (x ∷ xs) ys e =
     let more = scalars_apart xs ys h.1 in
     (rw (h.0, more.0) refl, more.1)
 
-at_end_from : (p : Place) (xs : List ℕ) → (end_from p xs).at ≡ p.at + length (encode_utf8_all xs)
+pub at_end_from : (p : Place) (xs : List ℕ) → (end_from p xs).at ≡ p.at + length (encode_utf8_all xs)
 at_end_from p [] = omega arith
 at_end_from p (x ∷ xs) = omega (arith, at_end_from (after x p) xs, length-append (encode x) (encode_utf8_all xs), length-encode x)
 

@@ -80,7 +80,7 @@ found_more ps qs = rw (tokens_of-append ps qs, remark_of-append ps qs) refl
 pub begin : (n : ℕ) (r : Rest) → length r.chars ≤ n → Left (cut_from n false r) (record { tokens = []; comment = None }) false r
 begin n r le = record { turns = n; enough = le; passed = []; pieces_are = refl; fault_is = refl; found_is = refl }
 
-start_le : (cs : List ℕ) → length (start cs).chars ≤ length cs
+pub start_le : (cs : List ℕ) → length (start cs).chars ≤ length cs
 unfolding start
 start_le [] = omega arith
 start_le (c ∷ cs) = elim (eqb c 0xFEFF) as (λ b. length (let r : Rest = cond b (record { chars = cs; place = after_mark }) (record { chars = c ∷ cs; place = origin }) in r).chars ≤ suc (length cs)) [ true ↦ omega arith | false ↦ omega arith ]
@@ -88,12 +88,12 @@ start_le (c ∷ cs) = elim (eqb c 0xFEFF) as (λ b. length (let r : Rest = cond 
 pub begins : (cs : List ℕ) (r : Rest) → r ≡ start cs → Left (cut_from (length cs) false (start cs)) (record { tokens = []; comment = None }) false r
 begins cs r is = rw is (begin (length cs) (start cs) (start_le cs))
 
-at_end : (n : ℕ) (joined : Bool) (r : Rest) → r.chars ≡ [] → cut_from n joined r ≡ nothing
+pub at_end : (n : ℕ) (joined : Bool) (r : Rest) → r.chars ≡ [] → cut_from n joined r ≡ nothing
 unfolding cut_from
 at_end zero joined r none = refl
 at_end (suc n) joined r none = rw none refl
 
-one_turn : (n : ℕ) (joined : Bool) (r : Rest) (c : ℕ) (tail : List ℕ) → r.chars ≡ c ∷ tail → cut_from (suc n) joined r ≡ goes_on r.place (cut_from n) (piece_at joined c r)
+pub one_turn : (n : ℕ) (joined : Bool) (r : Rest) (c : ℕ) (tail : List ℕ) → r.chars ≡ c ∷ tail → cut_from (suc n) joined r ≡ goes_on r.place (cut_from n) (piece_at joined c r)
 unfolding cut_from
 one_turn n joined r c tail one = rw one refl
 

@@ -2,6 +2,7 @@
 //! pragmas are left out; the first place at which nothing stands that the language knows is the error.
 #![tactic(auto)]
 
+pub mod laws;
 mod lexer;
 mod piece;
 mod run;
