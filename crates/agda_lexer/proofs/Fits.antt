@@ -76,9 +76,9 @@ lambda_kind = refl
 second_stops : (r : Rest) → is_name_kind (kind_at r) ≡ true → begins_run (run_past r).chars ≡ false
 second_stops r named = stops (sees 92 r.chars) named
   where
-  stops : (b : Bool) → is_name_kind (run_kind (encode_utf8_all (cond b (92 ∷ []) (front (is_in class.Run) r.chars)))) ≡ true → begins_run (let s : Rest = cond b (next r) (past (is_in class.Run) r) in s).chars ≡ false
-  stops true e = let no = lambda_kind in absurd cc
-  stops false e = past_from_stops r.place r.chars
+    stops : (b : Bool) → is_name_kind (run_kind (encode_utf8_all (cond b (92 ∷ []) (front (is_in class.Run) r.chars)))) ≡ true → begins_run (let s : Rest = cond b (next r) (past (is_in class.Run) r) in s).chars ≡ false
+    stops true e = let no = lambda_kind in absurd cc
+    stops false e = past_from_stops r.place r.chars
 
 abbrev Stops : ℕ → List ℕ → Rest → Type 0
 Stops c tail s = (begins_run s.chars ≡ false) ⊎ ((c ≡ 92) × (s.chars ≡ tail))
@@ -90,9 +90,9 @@ right_true false b e = absurd cc
 name_fits : (c : ℕ) (tail : List ℕ) (r : Rest) → Stops c tail r → Stops c tail (name_at r).1
 name_fits c tail r h = stops (sees 46 r.chars && is_name_kind (kind_at (next r))) refl
   where
-  stops : (b : Bool) → (sees 46 r.chars && is_name_kind (kind_at (next r))) ≡ b → Stops c tail (let x : TokenKind × Rest = cond b (kind.Qualified, run_past (next r)) (kind.Name, r) in x).1
-  stops true e = inl (second_stops (next r) (right_true _ _ e))
-  stops false e = h
+    stops : (b : Bool) → (sees 46 r.chars && is_name_kind (kind_at (next r))) ≡ b → Stops c tail (let x : TokenKind × Rest = cond b (kind.Qualified, run_past (next r)) (kind.Name, r) in x).1
+    stops true e = inl (second_stops (next r) (right_true _ _ e))
+    stops false e = h
 
 run_of_fits : (c : ℕ) (tail : List ℕ) (r : Rest) (k : Result TokenKind LexKind) → Stops c tail r → Fits c tail (run_of r k)
 run_of_fits c tail r (Err e) h = tt
@@ -107,9 +107,9 @@ run_of_fits c tail r (Ok kind.Underscore) h = h
 run_past_fits : (c : ℕ) (tail : List ℕ) (at : Place) → Stops c tail (run_past (rest (c ∷ tail) at))
 run_past_fits c tail at = stops (eqb c 92) refl
   where
-  stops : (b : Bool) → eqb c 92 ≡ b → Stops c tail (cond b (rest tail (after c at)) (past (is_in class.Run) (rest (c ∷ tail) at)))
-  stops true e = inr (eqb-true c 92 e, refl)
-  stops false e = inl (past_from_stops at (c ∷ tail))
+    stops : (b : Bool) → eqb c 92 ≡ b → Stops c tail (cond b (rest tail (after c at)) (past (is_in class.Run) (rest (c ∷ tail) at)))
+    stops true e = inr (eqb-true c 92 e, refl)
+    stops false e = inl (past_from_stops at (c ∷ tail))
 
 run_fits : (c : ℕ) (tail : List ℕ) (at : Place) → Fits c tail (run (rest (c ∷ tail) at))
 unfolding run

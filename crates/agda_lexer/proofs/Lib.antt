@@ -8,3 +8,5 @@ pub mod Turns
 pub mod Places
 pub mod Fits
 pub mod Walks
+pub mod Onto
+pub mod Lines

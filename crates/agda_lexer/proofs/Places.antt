@@ -43,17 +43,17 @@ begins_cons c cs true e = record {
 }
 begins_cons c cs false e = record { mark = []; split = rw e refl; at = rw e refl; again = λ done more s. same done more (rw e at s) }
   where
-  same : (done more : List ℕ) → c ∷ cs ≡ done ++ more → start done ≡ rest done (start (c ∷ cs)).place
-  same [] more s = rw e refl
-  same (d ∷ ds) more s = let is : c ≡ d = cc in let e' : eqb d 0xFEFF ≡ false = rw is at e in rw (e, e') refl
+    same : (done more : List ℕ) → c ∷ cs ≡ done ++ more → start done ≡ rest done (start (c ∷ cs)).place
+    same [] more s = rw e refl
+    same (d ∷ ds) more s = let is : c ≡ d = cc in let e' : eqb d 0xFEFF ≡ false = rw is at e in rw (e, e') refl
 
 begins : (cs : List ℕ) → Begins cs
 unfolding start
 begins [] = record { mark = []; split = refl; at = refl; again = λ done more s. none done more s }
   where
-  none : (done more : List ℕ) → [] ≡ done ++ more → start done ≡ rest done origin
-  none [] more s = refl
-  none (d ∷ ds) more s = absurd cc
+    none : (done more : List ℕ) → [] ≡ done ++ more → start done ≡ rest done origin
+    none [] more s = refl
+    none (d ∷ ds) more s = absurd cc
 begins (c ∷ cs) = begins_cons c cs (eqb c 0xFEFF) refl
 
 -- ---- a place that is reached
@@ -82,7 +82,7 @@ stands text u r f =
     let scalar : (all_scalars before ≡ true) × (all_scalars r.chars ≡ true) = scalars_apart before r.chars (rw all at (scalars-chars text u)) in
     let place : Place = (start (chars text)).place in
     let len : r.place.at ≡ length (encode_utf8_all before) =
-        ap (λ (p : Place). p.at) f.place_is ∙ at_end_from place f.taken ∙ ap (λ (n : ℕ). n + length (encode_utf8_all f.taken)) s.at ∙ sym (ap length (encodes-append s.mark f.taken) ∙ length-append (encode_utf8_all s.mark) (encode_utf8_all f.taken)) in
+    ap (λ (p : Place). p.at) f.place_is ∙ at_end_from place f.taken ∙ ap (λ (n : ℕ). n + length (encode_utf8_all f.taken)) s.at ∙ sym (ap length (encodes-append s.mark f.taken) ∙ length-append (encode_utf8_all s.mark) (encode_utf8_all f.taken)) in
     let again : start (chars (take r.place.at text)) ≡ rest f.taken place = ap start (front_is text before r.chars r.place.at len bytes scalar.0) ∙ s.again f.taken r.chars f.split in
     record {
       border = border_is text before r.chars r.place.at len bytes scalar.1;

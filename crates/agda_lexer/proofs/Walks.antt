@@ -125,11 +125,11 @@ rise_weaker m n (t ∷ ts) le h = (omega (arith, h.0), h.1)
 rise_token : (text : List ℕ) (from : Place) (k : Piece) (p : Placed) (ts : List Token) → p.from ≡ from → IsRead text p → Rise p.to.at ts → Rise from.at (with_token k p ts)
 rise_token text from k p ts e read later = let at : p.from.at ≡ from.at = ap (λ (x : Place). x.at) e in by_kind at k
   where
-  by_kind : p.from.at ≡ from.at → (k : Piece) → Rise from.at (with_token k p ts)
-  by_kind at piece.White = rise_weaker from.at p.to.at ts (omega (arith, read.rises, at)) later
-  by_kind at piece.Remark = rise_weaker from.at p.to.at ts (omega (arith, read.rises, at)) later
-  by_kind at (piece.Sign k) = (omega (arith, at), (read.rises, later))
-  by_kind at (piece.Run k) = (omega (arith, at), (read.rises, later))
+    by_kind : p.from.at ≡ from.at → (k : Piece) → Rise from.at (with_token k p ts)
+    by_kind at piece.White = rise_weaker from.at p.to.at ts (omega (arith, read.rises, at)) later
+    by_kind at piece.Remark = rise_weaker from.at p.to.at ts (omega (arith, read.rises, at)) later
+    by_kind at (piece.Sign k) = (omega (arith, at), (read.rises, later))
+    by_kind at (piece.Run k) = (omega (arith, at), (read.rises, later))
 
 pub rise : (text : List ℕ) (from to : Place) (ps : List Placed) → Join from ps to → All (IsRead text) ps → Rise from.at (tokens_of ps)
 rise text from to [] j all = tt
