@@ -1,2 +1,4 @@
 pub mod Steps
 pub mod Between
+pub mod Stands
+pub mod LineStarts

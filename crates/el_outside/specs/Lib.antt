@@ -5,3 +5,5 @@ pub mod Planned
 pub mod Memory
 pub mod Runs
 pub mod View
+pub mod Lines
+pub mod Replaced

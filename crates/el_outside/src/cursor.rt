@@ -73,6 +73,20 @@ impl<'a> Cursor<'a> {
         }
     }
 
+    /// A text whose first character stands at this offset and begins this line.
+    pub(crate) fn at_line(text: &'a str, at: u32, line: u32) -> Cursor<'a>
+        requires fits { at + length text.now + 2 ≤ 2 ^ 32 }
+        requires line { line ≤ at + 1 }
+        ensures { result ≡ record { chars = chars text.now; place = record { at = at; line = line; col = 1 } } }
+    {
+        Cursor {
+            rest: text,
+            at,
+            line,
+            col: 1,
+        }
+    }
+
     /// The line and the column of the first character that is left.
     pub fn pos(&self) -> Pos
         ensures { result ≡ spec.pos self.now.place }

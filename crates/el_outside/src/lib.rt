@@ -3,8 +3,10 @@
 #![tactic(auto)]
 
 mod cursor;
+mod edit;
 mod fail_plan;
 mod files;
+mod line_table;
 mod many;
 mod memory_files;
 mod memory_sink;
@@ -18,7 +20,9 @@ mod source;
 mod text;
 
 pub use cursor::{CharSet, Cursor, is_white};
+pub use edit::replace;
 pub use files::{FileRead, FileWrite, Files};
+pub use line_table::LineTable;
 pub use many::Many;
 pub use memory_files::{MemoryFiles, SureFiles};
 pub use memory_sink::{MemorySink, SureSink};

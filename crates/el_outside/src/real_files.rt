@@ -1,4 +1,4 @@
-ghost use Rattle.std.specs.Prelude.{◌≤◌, ◌+◌, None, IfOk, vec_len};
+ghost use Rattle.std.specs.Prelude.{◌≡◌, ◌≤◌, ◌+◌, None, IfOk, vec_len};
 
 use crate::{FileRead, FileWrite, Files, Many};
 use std::alloc::Global;
@@ -15,8 +15,11 @@ pub struct RealFiles<'r, R> {
     misses: u64,
 }
 
-impl<'r, R> RealFiles<'r, R> {
-    pub fn new(system: &'r R) -> RealFiles<'r, R> {
+impl<'r, R: FileSystem> RealFiles<'r, R> {
+    pub fn new(system: &'r R) -> RealFiles<'r, R>
+        ensures faults { ⟦<RealFiles<'r, R> as Files>⟧.faults result ≡ 0 }
+        ensures misses { ⟦<RealFiles<'r, R> as Files>⟧.misses result ≡ 0 }
+    {
         RealFiles {
             system,
             faults: 0,

@@ -1,3 +1,5 @@
+ghost use Rattle.std.specs.Prelude.{◌≡◌};
+
 use crate::{Failed, PutError, Sink, Source};
 use std::io::{Read, Write};
 
@@ -8,8 +10,12 @@ pub struct RealSource<R> {
     faults: u64,
 }
 
-impl<R> RealSource<R> {
-    pub fn new(inner: R) -> RealSource<R> {
+impl<R: Read> RealSource<R> {
+    /// It tells of its bytes what the reader tells.
+    pub fn new(inner: R) -> RealSource<R>
+        ensures left { ⟦<RealSource<R> as Source>⟧.left result ≡ R.remaining inner }
+        ensures faults { ⟦<RealSource<R> as Source>⟧.faults result ≡ 0 }
+    {
         RealSource { inner, faults: 0 }
     }
 }
@@ -37,8 +43,12 @@ pub struct RealSink<W> {
     faults: u64,
 }
 
-impl<W> RealSink<W> {
-    pub fn new(inner: W) -> RealSink<W> {
+impl<W: Write> RealSink<W> {
+    /// It tells of its bytes what the writer tells.
+    pub fn new(inner: W) -> RealSink<W>
+        ensures written { ⟦<RealSink<W> as Sink>⟧.written result ≡ W.contents inner }
+        ensures faults { ⟦<RealSink<W> as Sink>⟧.faults result ≡ 0 }
+    {
         RealSink { inner, faults: 0 }
     }
 }
