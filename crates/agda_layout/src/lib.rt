@@ -4,6 +4,7 @@
 
 mod header;
 mod laid;
+pub mod laws;
 mod layout;
 mod state;
 #[cfg(test)]
