@@ -1,0 +1,4 @@
+pub mod Alone
+pub mod Orders
+pub mod Depths
+pub mod Outsides

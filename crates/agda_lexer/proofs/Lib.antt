@@ -1,0 +1,12 @@
+pub mod Steps
+pub mod Table
+pub mod Levels
+pub mod Words
+pub mod Nested
+pub mod Further
+pub mod Turns
+pub mod Places
+pub mod Fits
+pub mod Walks
+pub mod Onto
+pub mod Lines
