@@ -3,7 +3,7 @@ use Rattle.std.specs.Prelude.{◌≡◌, ℕ, ◌+◌, ◌-◌, ◌<◌, true, f
 use Rattle.std.specs.Option.{option_map_or}
 use Rattle.std.specs.List.{AllByRecursion}
 use Rattle.core_rules.specs.Term.{Term, Terms, Var, Sort, Pi, Lam, App, Def, Fam, Con, Proj, Meta, End, And, to_list, AllMetas}
-use Rattle.core_rules.specs.Signature.{Telescope, CorePat, PatShape, CorePats, Pat, VarPat, SolvedPat, DottedPat, ConPat, AbsurdPat, ProjectionPat, NoPat, AndPat, CheckedLeft, CoreClause, Branch, Tree, CoBranches, ConBranches, Leaf, Intro, Cosplit, Split, RecordSplit, Absurd, NoField, OnField, NoCon, Refuted, Goes, ConDecl, FamDecl, Decl, Postulate, Family, Open, Function, Signature, defs, fams, con_counts, field_counts, con_place, fam_decl, without_cons}
+use Rattle.core_rules.specs.Signature.{Telescope, CorePat, PatShape, CorePats, Pat, VarPat, SolvedPat, DottedPat, ConPat, AbsurdPat, ProjectionPat, NoPat, AndPat, CheckedLeft, CoreClause, Branch, Tree, CoBranches, ConBranches, Leaf, Intro, Cosplit, Split, RecordSplit, Absurd, NoField, OnField, NoCon, Refuted, Goes, ConDecl, FamDecl, Decl, Postulate, Family, Open, Function, Signature, defs, fams, con_counts, field_counts, con_place, con_decl, fam_decl, without_cons}
 
 -- the number of parameters of a constructor's family
 abbrev pub con_params : {A : Type 0} → Signature A → ℕ → Option ℕ
@@ -12,7 +12,11 @@ con_params g k = option_and_then (λ p. option_map (λ d. length d.params) (fam_
 abbrev pub field_count : {A : Type 0} → Signature A → ℕ → ℕ
 field_count g d = option_map_or (λ d. length d.fields) (fam_decl g d) 0
 
--- any metavariable may stand at any number of arguments: where no store of them is handed in
+-- the number of arguments of a constructor
+abbrev pub arg_count : {A : Type 0} → Signature A → ℕ → ℕ
+arg_count g k = option_map_or (λ c. length c.args) (con_decl g k) 0
+
+-- where neither metavariables nor solutions are handed in, any metavariable stands at any number of arguments
 abbrev pub any_meta : ℕ → ℕ → Type 0
 any_meta m n = Unit {0}
 
@@ -72,17 +76,11 @@ module _ {A : Type 0} (g : Signature A) (M : ℕ → ℕ → Type 0) where
     pub left : LeftInScope q.left
     pub right : RightInScope (length q.left.context) q.right
 
-  -- the branch of a constructor's context of n entries
+  -- where the constructor's context has n entries
   pub record BranchInScope (n : ℕ) (b : Branch Term) : Type 0 where
     pub context : TelescopeInScope 0 b.context
-    pub as_many : length b.values ≡ n
     pub values : AllByRecursion (λ t. InScope (length b.context) t) b.values
-    pub kept : length b.keep ≡ length b.context
     pub keep : AllByRecursion (λ i. i < n) b.keep
-
-  -- of each constructor k, so many arguments
-  abbrev pub arguments : ℕ → ℕ
-  arguments k = option_map_or (λ p. option_map_or (λ d. option_map_or (λ c. length c.args) (slice_get d.cons p.1) 0) (fam_decl g p.0) 0) (con_place g k) 0
 
   abbrev mutual
     pub TreeInScope : ℕ → Tree Term → Type 0
@@ -100,7 +98,7 @@ module _ {A : Type 0} (g : Signature A) (M : ℕ → ℕ → Type 0) where
     pub ConBranchesInScope : ℕ → ConBranches Term → Type 0
     ConBranchesInScope n NoCon = Unit {0}
     ConBranchesInScope n (Refuted k bs) = (k < sum (con_counts g)) × ConBranchesInScope n bs
-    ConBranchesInScope n (Goes k b T bs) = (k < sum (con_counts g)) × BranchInScope (n + arguments k - 1) b × TreeInScope (length b.context) T × ConBranchesInScope n bs
+    ConBranchesInScope n (Goes k b T bs) = (k < sum (con_counts g)) × BranchInScope (n + arg_count g k - 1) b × TreeInScope (length b.context) T × ConBranchesInScope n bs
 
 -- a data type has no fields, no eta, and is not coinductive
 pub record IsDataShape {A : Type 0} (d : FamDecl A) : Type 0 where
@@ -120,6 +118,9 @@ pub record IsRecordShape {A : Type 0} (d : FamDecl A) : Type 0 where
 pub record HasShape {A : Type 0} (d : FamDecl A) : Type 0 where
   pub of_data : d.is_record ≡ false → IsDataShape d
   pub of_record : d.is_record ≡ true → IsRecordShape d
+
+abbrev pub FamiliesHaveShape : {A : Type 0} → Signature A → Type 0
+FamiliesHaveShape {A} g = (d : ℕ) (decl : FamDecl A) → fam_decl g d ≡ Some decl → HasShape decl
 
 module _ (g : Signature Term) (M : ℕ → ℕ → Type 0) where
   -- under n parameters
@@ -147,7 +148,33 @@ module _ (g : Signature Term) (M : ℕ → ℕ → Type 0) where
 abbrev pub SignatureInScope : Signature Term → (ℕ → ℕ → Type 0) → Type 0
 SignatureInScope g M = (i : ℕ) (d : Decl Term) → slice_get g i ≡ Some d → DeclInScope (take i g) M d
 
--- the solutions s of metavariables: the variables of each lie below the number of arguments at which its metavariable may stand
+-- the variables of t lie below n
+abbrev mutual
+  pub VarsBelow : ℕ → Term → Type 0
+  VarsBelow n (Var i) = i < n
+  VarsBelow n (Sort l) = Unit {0}
+  VarsBelow n (Pi b x a t) = VarsBelow n a × VarsBelow (n + 1) t
+  VarsBelow n (Lam b x a t) = VarsBelow n a × VarsBelow (n + 1) t
+  VarsBelow n (App b t u) = VarsBelow n t × VarsBelow n u
+  VarsBelow n (Def f) = Unit {0}
+  VarsBelow n (Fam d) = Unit {0}
+  VarsBelow n (Con k ts) = AllVarsBelow n ts
+  VarsBelow n (Proj f t) = VarsBelow n t
+  VarsBelow n (Meta m ts) = AllVarsBelow n ts
+
+  pub AllVarsBelow : ℕ → Terms → Type 0
+  AllVarsBelow n End = Unit {0}
+  AllVarsBelow n (And t ts) = VarsBelow n t × AllVarsBelow n ts
+
+-- where a store of metavariables is handed in, which has for each the number of entries of its context: a metavariable stands at so many arguments
+abbrev pub in_store : (ℕ → Option ℕ) → ℕ → ℕ → Type 0
+in_store counts m n = counts m ≡ Some n
+
+-- where only solutions s are handed in: a metavariable that is solved stands at more arguments than its solution has variables
+abbrev pub solved_at : (ℕ → Option Term) → ℕ → ℕ → Type 0
+solved_at s m n = (t : Term) → s m ≡ Some t → VarsBelow n t
+
+-- the solution of a metavariable is in scope in a context of as many entries as arguments at which the metavariable may stand
 abbrev pub SolutionsInScope : {A : Type 0} → Signature A → (ℕ → ℕ → Type 0) → (ℕ → Option Term) → Type 0
 SolutionsInScope g M s = (m n : ℕ) (t : Term) → M m n → s m ≡ Some t → InScope g M n t
 

@@ -3,12 +3,14 @@ pub mod Stored
 pub mod Substitution
 pub mod Signature
 pub mod Mapped
+pub mod StoredSignature
+pub mod InScope
 pub mod Elimination
 pub mod Run
 pub mod Conversion
 pub mod Typing
 pub mod TypedTree
-pub mod InScope
 pub mod Derivable
+pub mod Inversion
 pub mod Laws
-pub mod StoredSignature
+pub mod Examples

@@ -52,7 +52,7 @@ module _ {A B : Type 0} (f : A → B) where
 
     pub co_branches_map : CoBranches A → CoBranches B
     co_branches_map NoField = NoField
-    co_branches_map (OnField h T bs) = OnField h (tree_map T) (co_branches_map bs)
+    co_branches_map (OnField n T bs) = OnField n (tree_map T) (co_branches_map bs)
 
     pub con_branches_map : ConBranches A → ConBranches B
     con_branches_map NoCon = NoCon
@@ -124,7 +124,7 @@ module _ {A : Type 0} (P : A → Type 0) where
 
     pub AllCoBranches : CoBranches A → Type 0
     AllCoBranches NoField = Unit {0}
-    AllCoBranches (OnField h T bs) = AllTree T × AllCoBranches bs
+    AllCoBranches (OnField n T bs) = AllTree T × AllCoBranches bs
 
     pub AllConBranches : ConBranches A → Type 0
     AllConBranches NoCon = Unit {0}

@@ -133,7 +133,7 @@ pub data Decl (A : Type 0) : Type 0 where
   Open : ℕ → A → Decl A
   Function : ℕ → A → List (CoreClause A) → Tree A → Decl A
 
--- in the order of declaration
+-- the declarations in order
 abbrev pub Signature : Type 0 → Type 0
 Signature A = List (Decl A)
 
@@ -237,10 +237,10 @@ fields_of g d = ids_of (field_counts g) d
 -- the branch of a field
 abbrev pub co_branch : {A : Type 0} → CoBranches A → ℕ → Option (Tree A)
 co_branch NoField f = None
-co_branch (OnField h T bs) f = cond (eqb h f) (Some T) (co_branch bs f)
+co_branch (OnField n T bs) f = cond (eqb n f) (Some T) (co_branch bs f)
 
 -- the branch of a constructor, where it goes on
 abbrev pub con_branch : {A : Type 0} → ConBranches A → ℕ → Option (Branch A × Tree A)
 con_branch NoCon k = None
-con_branch (Refuted h bs) k = cond (eqb h k) None (con_branch bs k)
-con_branch (Goes h b T bs) k = cond (eqb h k) (Some (b, T)) (con_branch bs k)
+con_branch (Refuted n bs) k = cond (eqb n k) None (con_branch bs k)
+con_branch (Goes n b T bs) k = cond (eqb n k) (Some (b, T)) (con_branch bs k)

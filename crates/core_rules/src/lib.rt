@@ -2,6 +2,9 @@
 //! Every promise of the checker is stated over these definitions. They stand in `specs/`; nothing here runs but `Flag`.
 #![tactic(auto)]
 
+pub mod examples;
+pub mod laws;
+
 /// How an argument is given: written out, or left to be found.
 #[derive(Clone, Copy, Debug, PartialEq, Eq)]
 pub enum Flag {

@@ -1,0 +1,5 @@
+-- Laws of conversion.
+pub mod Changed
+pub mod Pointwise
+pub mod Shifted
+pub mod Names

@@ -1,0 +1,6 @@
+-- Laws of signatures.
+pub mod Places
+pub mod Growth
+pub mod Known
+pub mod Grown
+pub mod Closing

@@ -1,0 +1,5 @@
+-- Laws of substitution.
+pub mod Traversal
+pub mod Lifted
+pub mod Changes
+pub mod Exchange
