@@ -2,7 +2,7 @@
 use Rattle.std.specs.Prelude.{◌≡◌, ℕ, ◌<◌, length, Result, Ok, Err, OnOk}
 use Rattle.std.proofs.Common.{sym, ◌∙◌, subst, ⊎_elim}
 use Rattle.core_rules.specs.Substitution.{shift}
-use Rattle.core_rules.proofs.Lifting.{shift_none}
+use Rattle.core_rules.proofs.Substitution.Lifted.{shift_none}
 use Rattle.core_terms.specs.Pool.{Pool, tree, Extends, StandsFor}
 use Rattle.core_terms.specs.Growth.{Extends-tree}
 use Rattle.core_terms.specs.Table.{Results, Puts}

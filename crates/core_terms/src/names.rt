@@ -25,6 +25,7 @@ impl Model for Names {
 }
 
 impl Names {
+    /// No names.
     pub fn new(alloc: Global) -> Result<Names, NoMemory>
         ensures { IfOk result (λ n. n ≡ []) }
     {
@@ -49,6 +50,7 @@ impl Names {
         Ok(NameId::new(next))
     }
 
+    /// The text of one of the ids.
     pub fn text(&self, n: NameId) -> &str
         requires { n < length self.now }
         ensures { slice_get self.now n ≡ Some result.now }
@@ -56,6 +58,7 @@ impl Names {
         self.texts[n.number() as usize].as_str()
     }
 
+    /// How many ids there are. They are the numbers below it.
     pub fn len(&self) -> u32
         ensures { result ≡ length self.now }
     {

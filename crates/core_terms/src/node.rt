@@ -37,6 +37,7 @@ pub enum Parts {
 }
 
 impl Node {
+    /// Its parts, by how many there are.
     pub fn parts(&self) -> Parts
         ensures { result ≡ parts_of self.now }
     {

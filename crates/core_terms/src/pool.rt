@@ -49,6 +49,7 @@ impl Model for Args {
 }
 
 impl Args {
+    /// How many terms there are.
     pub fn len(self) -> usize
         ensures { result ≡ self.1 - self.0 }
     {
@@ -74,6 +75,7 @@ impl Model for PoolMark {
 }
 
 impl TermPool {
+    /// A pool without terms.
     pub fn new(alloc: Global) -> Result<TermPool, NoMemory>
         ensures { IfOk result (λ p. p ≡ no_terms) }
     {
@@ -91,7 +93,7 @@ impl TermPool {
         self.nodes.len()
     }
 
-    /// The id of a term with this node outermost.
+    /// An id of the term that has this node outermost, whose parts are ids of the pool.
     pub fn add(&mut self, node: Node) -> Result<TermId, NoMemory>
         requires { Below (length self.old.trees) self.old.ids node }
         ensures extends { Extends self.old self.new }
@@ -104,6 +106,7 @@ impl TermPool {
         Ok(TermId::new(at))
     }
 
+    /// The outermost node of a term, whose parts are smaller ids.
     pub fn node(&self, t: TermId) -> Node
         requires { t < length self.now.trees }
         ensures below { Below t self.now.ids result }
@@ -112,7 +115,7 @@ impl TermPool {
         self.nodes[t.number() as usize]
     }
 
-    /// An argument list of these ids.
+    /// An argument list of these ids of the pool.
     pub fn add_args(&mut self, ids: &[TermId]) -> Result<Args, NoMemory>
         requires { AllByRecursion (λ i. i < length self.old.trees) ids.now }
         ensures extends { Extends self.old self.new }
@@ -131,6 +134,7 @@ impl TermPool {
         })
     }
 
+    /// The ids of an argument list of the pool.
     pub fn args(&self, a: Args) -> &[TermId]
         requires { IsRow (length self.now.trees) self.now.ids a }
         ensures { result.now ≡ row self.now.ids a }
@@ -149,7 +153,7 @@ impl TermPool {
         }
     }
 
-    /// Forgets what was added after the mark.
+    /// Forgets what was added after the mark, which was taken of this pool.
     pub fn cut(&mut self, mark: PoolMark)
         requires { Marks self.old mark }
         ensures { self.new ≡ cut_to mark self.old }

@@ -21,6 +21,7 @@ pub struct DefEntry {
     pub state: DefState,
 }
 
+/// Which of the two it is, and how far a function is known.
 #[derive(Debug, PartialEq, Eq, Drop)]
 pub enum DefState {
     Postulate,
@@ -68,6 +69,7 @@ impl Model for SigMark {
 }
 
 impl Signature {
+    /// A signature without declarations.
     pub fn new(alloc: Global) -> Result<Signature, NoMemory>
         ensures { IfOk result (λ g. g ≡ []) }
     {
@@ -93,6 +95,7 @@ impl Signature {
         Ok(())
     }
 
+    /// What it says of one of its postulates and functions.
     pub fn def(&self, d: DefId) -> &DefEntry
         requires { d < length (defs self.now) }
         ensures { def_decl self.now d ≡ Some (entry_decl result.now) }
