@@ -14,3 +14,5 @@ pub mod Derivable
 pub mod Inversion
 pub mod Laws
 pub mod Examples
+pub mod Heads
+pub mod Bounded
