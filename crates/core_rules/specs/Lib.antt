@@ -16,3 +16,5 @@ pub mod Laws
 pub mod Examples
 pub mod Heads
 pub mod Bounded
+pub mod Steps
+pub mod BoundedLaws
