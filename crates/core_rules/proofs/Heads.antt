@@ -19,3 +19,4 @@ pub mod YesConverts
 pub mod Weight
 pub mod Ends
 pub mod Needed
+pub mod Counted

@@ -18,3 +18,4 @@ pub mod Heads
 pub mod Bounded
 pub mod Steps
 pub mod BoundedLaws
+pub mod Addition
