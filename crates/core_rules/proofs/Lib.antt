@@ -5,3 +5,4 @@ pub mod Conversion
 pub mod Typing
 pub mod Signature
 pub mod Derivations
+pub mod Heads

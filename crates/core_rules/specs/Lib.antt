@@ -14,3 +14,8 @@ pub mod Derivable
 pub mod Inversion
 pub mod Laws
 pub mod Examples
+pub mod Heads
+pub mod Bounded
+pub mod Steps
+pub mod BoundedLaws
+pub mod Addition

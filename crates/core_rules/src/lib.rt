@@ -2,6 +2,8 @@
 //! Every promise of the checker is stated over these definitions. They stand in `specs/`; nothing here runs but `Flag`.
 #![tactic(auto)]
 
+pub mod bounded_examples;
+pub mod bounded_laws;
 pub mod examples;
 pub mod laws;
 

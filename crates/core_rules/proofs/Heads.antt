@@ -1,0 +1,22 @@
+-- Laws of bounded head forms and bounded conversion.
+pub mod OneAnswer
+pub mod OneVerdict
+pub mod Next
+pub mod Mapped
+pub mod Replace
+pub mod Replaced
+pub mod Resolve
+pub mod ReplacedBack
+pub mod ReplacedVerdict
+pub mod FullSolutions
+pub mod Untouched
+pub mod Gather
+pub mod Fit
+pub mod Sound
+pub mod HeadConverts
+pub mod Regular
+pub mod YesConverts
+pub mod Weight
+pub mod Ends
+pub mod Needed
+pub mod Counted
