@@ -45,7 +45,8 @@ pub(crate) enum Task {
         t: TermId,
         under: u32,
     },
-    /// The results of its two parts are there, the second under `inner` binders: only the node is left to make.
+    /// The results of its two parts are there once the tasks behind it are done, that of the second
+    /// under `inner` binders: only the node is left to make.
     Join {
         t: TermId,
         under: u32,

@@ -1,7 +1,8 @@
-//! Shared core terms by id, the texts of their names, and the signature of the declarations that they speak of.
+//! Shared core terms by id, the texts of their names, and the signature of the declarations that
+//! they speak of.
 //!
-//! A [`TermPool`] keeps each node once and names it by a [`TermId`]; contracts see the tree that an id stands for.
-//! Everything above works on ids, and reads in contracts as if it worked on trees.
+//! A [`TermPool`] keeps each node once and names it by a [`TermId`]; contracts see the tree that an
+//! id stands for. Everything above works on ids, and reads in contracts as if it worked on trees.
 #![tactic(auto)]
 
 mod change;

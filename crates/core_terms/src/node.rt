@@ -4,7 +4,8 @@ ghost use Rattle.core_terms.specs.Node.{parts_of, with_two};
 use crate::ids::{DefId, NameId, TermId};
 use core_rules::Flag;
 
-/// The outermost node of a term. Variables are de Bruijn indices; `cod` stands under one binder more than `dom`.
+/// The outermost node of a term. Variables are de Bruijn indices; `cod` stands under one binder more
+/// than `dom`.
 #[derive(Clone, Copy, Debug, PartialEq, Eq)]
 pub enum Node {
     Var(u32),

@@ -1,6 +1,7 @@
 ghost use Rattle.std.specs.Prelude.{◌≡◌, ℕ, ◌-◌, ◌<◌, length, IfOk};
 ghost use Rattle.std.specs.List.{AllByRecursion};
-ghost use Rattle.core_terms.specs.Pool.{Pool, tree, row, node_tree, no_terms, Below, IsRow, Extends, StandsFor, Marks, cut_to};
+ghost use Rattle.core_terms.specs.Pool.{Pool, Below, Extends, IsRow, Marks, StandsFor, cut_to};
+ghost use Rattle.core_terms.specs.Pool.{no_terms, node_tree, row, tree};
 
 use crate::ids::TermId;
 use crate::no_memory::NoMemory;
@@ -8,10 +9,12 @@ use crate::node::Node;
 use std::alloc::Global;
 use std::marker::Model;
 
-/// Terms that share their parts. Contracts see the tree that each id stands for, and the argument lists.
+/// Terms that share their parts. Contracts see the tree that each id stands for, and the argument
+/// lists.
 ///
-/// The parts of a node lie below it, many ids may stand for one tree, and nothing that is added changes an earlier tree.
-/// After want of memory a pool may hold more than before; its earlier ids stand for what they stood for.
+/// The parts of a node lie below it, many ids may stand for one tree, and nothing that is added
+/// changes an earlier tree. After want of memory a pool may hold more than before; its earlier ids
+/// stand for what they stood for.
 #[derive(Drop)]
 pub struct TermPool {
     nodes: Vec<Node>,
@@ -97,7 +100,8 @@ impl TermPool {
     pub fn add(&mut self, node: Node) -> Result<TermId, NoMemory>
         requires { Below (length self.old.trees) self.old.ids node }
         ensures extends { Extends self.old self.new }
-        ensures stands { IfOk result (λ t. StandsFor self.new t (node_tree (tree self.old) self.old.ids node)) }
+        ensures stands { IfOk result
+            (λ t. StandsFor self.new t (node_tree (tree self.old) self.old.ids node)) }
     {
         let Ok(at) = u32::try_from(self.nodes.len()) else {
             return Err(NoMemory);
@@ -142,7 +146,7 @@ impl TermPool {
         &self.ids[a.start as usize..a.end as usize]
     }
 
-    /// The place that the pool has reached. As the pool grows it stays one to which the pool can be cut.
+    /// The place that the pool has reached. As the pool grows it stays one to which it can be cut.
     pub fn mark(&self) -> PoolMark
         ensures is { result ≡ (length self.now.trees, length self.now.ids) }
         ensures marks { Marks self.now result }

@@ -65,7 +65,8 @@ impl Replace {
     fn value(&mut self, alloc: Global, pool: &mut TermPool, under: u32) -> Result<TermId, NoMemory>
         requires { IsShifted self.old.shifted self.old.by pool.old }
         ensures extends { Extends pool.old pool.new }
-        ensures is { IfOk result (λ r. StandsFor pool.new r (shift (tree pool.old self.old.by) 0 under)) }
+        ensures is { IfOk result
+            (λ r. StandsFor pool.new r (shift (tree pool.old self.old.by) 0 under)) }
         ensures at { self.new.at ≡ self.old.at }
         ensures by { self.new.by ≡ self.old.by }
         ensures shifted { OnOk result (IsShifted self.new.shifted self.old.by pool.new) }
@@ -109,7 +110,8 @@ impl Change for Replace {
     }
 }
 
-/// The term with its variables from `from` on raised by `by`. A variable that would reach 2^32 is want of memory.
+/// The term with its variables from `from` on raised by `by`. A variable that would reach 2^32 is
+/// want of memory.
 pub fn shift(
     alloc: Global,
     pool: &mut TermPool,
@@ -127,7 +129,8 @@ pub fn shift(
     changed(alloc, pool, &mut Rise { from, by }, t)
 }
 
-/// The term with `by`, which stands in the context of the result, for the variable `at`; the later variables move down by one.
+/// The term with `by`, which stands in the context of the result, for the variable `at`; the later
+/// variables move down by one. A variable that would reach 2^32 is want of memory.
 pub fn subst(
     alloc: Global,
     pool: &mut TermPool,
@@ -138,7 +141,8 @@ pub fn subst(
     requires t { t < length pool.old.trees }
     requires by { by < length pool.old.trees }
     ensures extends { Extends pool.old pool.new }
-    ensures is { IfOk result (λ r. StandsFor pool.new r (subst (tree pool.old t) at (tree pool.old by))) }
+    ensures is { IfOk result
+        (λ r. StandsFor pool.new r (subst (tree pool.old t) at (tree pool.old by))) }
 {
     let shifted = Table::new(alloc);
     changed(alloc, pool, &mut Replace { at, by, shifted }, t)

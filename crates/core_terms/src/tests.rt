@@ -114,7 +114,7 @@ fn changes_once_for_each_shared_node(rt: HostRuntime) -> Result<(), Fail> {
     Ok(())
 }
 
-/// λ-free terms by hand: under the binder of (x : 0) → 0 1, variable 0 is x and 1 is the outer 0.
+/// By hand: in (x : 0) → 0 1, under the binder, variable 0 is x and 1 is the outer 0.
 #[test]
 fn changes_under_binders(rt: HostRuntime) -> Result<(), Fail> {
     let mut pool = TermPool::new(rt.alloc())?;

@@ -13,8 +13,8 @@ use crate::pool::TermPool;
 use crate::table::Table;
 use std::alloc::Global;
 
-/// The term with its variables changed. It works once for each shared node under so many binders, and keeps the nodes
-/// that wait in a list, so that a term of any depth gets its answer.
+/// The term with its variables changed. It works once for each shared node under so many binders,
+/// and keeps the nodes that wait in a list, so that a term of any depth gets its answer.
 pub(crate) fn changed<C: Change>(
     alloc: Global,
     pool: &mut TermPool,
@@ -24,7 +24,8 @@ pub(crate) fn changed<C: Change>(
     requires within { t < length pool.old.trees }
     requires ready { C.ready change.old pool.old }
     ensures extends { Extends pool.old pool.new }
-    ensures is { IfOk result (λ r. StandsFor pool.new r (over (C.term change.old pool.old) 0 (tree pool.old t))) }
+    ensures is { IfOk result
+        (λ r. StandsFor pool.new r (over (C.term change.old pool.old) 0 (tree pool.old t))) }
 {
     let mut table = Table::new(alloc);
     let mut pending = Vec::new(alloc);
@@ -48,11 +49,14 @@ fn turn<C: Change>(
     task: Task,
 ) -> Result<(), NoMemory>
     requires ready { C.ready change.old pool.old }
-    requires state { State (C.term change.old pool.old) pool.old table.old (pending.old.items ++ task ∷ []) }
+    requires state { State (C.term change.old pool.old)
+        pool.old table.old (pending.old.items ++ task ∷ []) }
     ensures extends { Extends pool.old pool.new }
     ensures same { OnOk result (C.term change.new pool.new ≡ C.term change.old pool.old) }
     ensures ready { OnOk result (C.ready change.new pool.new) }
-    ensures turn { OnOk result (Turn (C.term change.old pool.old) pool.old table.old (pending.old.items ++ task ∷ []) pool.new table.new pending.new.items) }
+    ensures turn { OnOk result (Turn (C.term change.old pool.old)
+        pool.old table.old (pending.old.items ++ task ∷ [])
+        pool.new table.new pending.new.items) }
 {
     match task {
         Task::Make { t, under } => {
@@ -92,11 +96,14 @@ fn make<C: Change>(
     under: u32,
 ) -> Result<(), NoMemory>
     requires ready { C.ready change.old pool.old }
-    requires state { State (C.term change.old pool.old) pool.old table.old (pending.old.items ++ Make t under ∷ []) }
+    requires state { State (C.term change.old pool.old)
+        pool.old table.old (pending.old.items ++ Make t under ∷ []) }
     ensures extends { Extends pool.old pool.new }
     ensures same { OnOk result (C.term change.new pool.new ≡ C.term change.old pool.old) }
     ensures ready { OnOk result (C.ready change.new pool.new) }
-    ensures turn { OnOk result (Turn (C.term change.old pool.old) pool.old table.old (pending.old.items ++ Make t under ∷ []) pool.new table.new pending.new.items) }
+    ensures turn { OnOk result (Turn (C.term change.old pool.old)
+        pool.old table.old (pending.old.items ++ Make t under ∷ [])
+        pool.new table.new pending.new.items) }
 {
     let node = pool.node(t);
     match node.parts() {
@@ -142,9 +149,11 @@ fn join(
     requires within { t < length pool.old.trees }
     requires is { tree pool.old t ≡ node_tree (tree pool.old) pool.old.ids node.now }
     requires parts { with_two parts.0 parts.1 node.now ≡ node.now }
-    requires below { Below (length pool.old.trees) pool.old.ids (with_two made.0 made.1 node.now) }
+    requires below { Below (length pool.old.trees) pool.old.ids
+        (with_two made.0 made.1 node.now) }
     ensures extends { Extends pool.old pool.new }
-    ensures stands { IfOk result (λ r. StandsFor pool.new r (node_tree (tree pool.old) pool.old.ids (with_two made.0 made.1 node.now))) }
+    ensures stands { IfOk result (λ r. StandsFor pool.new r
+        (node_tree (tree pool.old) pool.old.ids (with_two made.0 made.1 node.now))) }
 {
     if made.0 == parts.0 && made.1 == parts.1 {
         return Ok(t);
