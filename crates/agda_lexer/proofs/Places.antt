@@ -1,12 +1,11 @@
 -- The places that are reached, in bytes.
-use Rattle.std.proofs.Common.{◌≡◌, ℕ, ◌+◌, Bool, true, false, eqb, cond, ◌&&◌, List, [], ◌∷◌, ◌++◌, length, take, drop, refl, sym, ap, ◌∙◌, append_assoc, arith}
+use Rattle.std.proofs.Common.{◌≡◌, ℕ, ◌+◌, Bool, true, false, eqb, ◌&&◌, List, [], ◌∷◌, ◌++◌, length, take, drop, refl, sym, ap, ◌∙◌, append_assoc, arith}
 use Rattle.std.proofs.lemmas.List.{length-append, take_at, drop_at, append-nil}
 use Rattle.std.proofs.lemmas.Bool.{eqb-true}
 use Rattle.std.proofs.lemmas.Str.{encodes-chars, scalars-chars, chars-encodes, encodes-append, length-encode, IsCharBoundary-at_seam}
 use Rattle.std.specs.Str.{chars, encode_utf8_all, all_scalars, IsUtf8, IsCharBoundary}
-use Rattle.std.specs.Char.{len_utf8}
 use lib.Utf8.{encode}
-use Rattle.el_outside.specs.Place.{Place, Rest, after, start, origin, after_mark, end_from, end_of, pos, pos_of}
+use Rattle.el_outside.specs.Place.{Place, Rest, after, start, origin, end_from, end_of, pos, pos_of}
 use Rattle.agda_lexer.proofs.Steps.{rest}
 use Rattle.agda_lexer.proofs.Further.{Further}
 

@@ -1,5 +1,5 @@
 -- The pieces of a text from its beginning to its end: they join, and each is as its kind says.
-use Rattle.std.proofs.Common.{◌≡◌, ℕ, zero, suc, ◌+◌, ◌<◌, ◌≤◌, inl, inr, Bool, false, List, [], ◌∷◌, ◌++◌, length, drop, Option, Some, None, Result, Ok, Err, refl, sym, ap, ◌∙◌, arith}
+use Rattle.std.proofs.Common.{◌≡◌, ℕ, zero, suc, ◌+◌, ◌<◌, ◌≤◌, inl, inr, Bool, false, List, [], ◌∷◌, length, Some, Ok, Err, refl, sym, ap, ◌∙◌, arith}
 use Rattle.std.proofs.lemmas.Str.{len_utf8_bounds}
 use Rattle.std.proofs.lemmas.List.Elements.{All-nil, All-cons, All-head, All-tail, All-weaker}
 use Rattle.std.specs.Str.{chars, encode_utf8_all, IsUtf8, IsCharBoundary}
@@ -11,10 +11,10 @@ use Rattle.agda_lexer.specs.declared.token.TokenKind.{TokenKind}
 use Rattle.agda_lexer.specs.declared.piece.Piece.{Piece}
 use Rattle.agda_lexer.specs.declared.piece.Piece.TheVariants as piece
 use Rattle.agda_lexer.specs.Pieces.{Reading, piece_at, is_run}
-use Rattle.agda_lexer.specs.Tokens.{Placed, Cut, nothing, goes_on, turn, cut_from, cut_of, tokens_of, token, with_token}
+use Rattle.agda_lexer.specs.Tokens.{Placed, Cut, nothing, goes_on, cut_from, cut_of, tokens_of, token, with_token}
 use Rattle.agda_lexer.specs.Laws.{Rise, IsOnBorders, IsPlaced, Join, EndsAt, IsWhite, IsLongest, IsCovered, tokens_up_to_fault}
 use Rattle.agda_lexer.proofs.Steps.{rest, whole}
-use Rattle.agda_lexer.proofs.Further.{Further, here, then, step, piece_goes, takes, length_le}
+use Rattle.agda_lexer.proofs.Further.{Further, here, then, step, piece_goes, takes}
 use Rattle.agda_lexer.proofs.Places.{Stands, stands, at_end_from}
 use Rattle.agda_lexer.proofs.Fits.{FitsPiece, piece_fits}
 use Rattle.agda_lexer.proofs.Turns.{placed, at_end, one_turn, start_le}
