@@ -1,12 +1,12 @@
 -- What a cursor over a text shows is what is left of the text at its place, and that place is the definition's.
-use Rattle.std.proofs.Common.{ℕ, ◌≡◌, ◌+◌, ◌-◌, true, false, cond, eqb, List, [], ◌∷◌, ◌++◌, refl, length, take, drop, ap, sym, ◌∙◌, arith}
+use Rattle.std.proofs.Common.{ℕ, zero, suc, ◌≡◌, ◌+◌, ◌-◌, true, false, cond, eqb, List, [], ◌∷◌, ◌++◌, refl, length, take, drop, ap, sym, ◌∙◌, arith}
 use Rattle.std.proofs.lemmas.Bool.Decides.{nat_tests}
 use Rattle.std.proofs.lemmas.List.{append-nil, length-take, take_at, drop_at}
 use Rattle.std.proofs.Math.Seq.{take-add}
 use Rattle.std.proofs.lemmas.Str.{chars-nil, chars-append, chars_past_char, encodes-chars, length-encode, len_utf8_bounds, drop_past_char, IsUtf8-take, IsUtf8-drop, IsUtf8-between, IsUtf8-past_char, IsCharBoundary-start, IsCharBoundary-at_seam, IsCharBoundary-past_char}
 use Rattle.std.specs.Str.{chars, encode_utf8_all, IsUtf8, IsCharBoundary}
 use Rattle.std.specs.Char.{len_utf8}
-use Rattle.el_outside.specs.Place.{Place, Rest, after, start, origin, after_mark, next, sees, end_from, end_of}
+use Rattle.el_outside.specs.Place.{Place, Rest, after, start, origin, after_mark, next, nexts, next_from, sees, end_from, end_of}
 use lib.Utf8.{encode}
 
 pub end_from-append : (p : Place) (xs ys : List ℕ) → end_from p (xs ++ ys) ≡ end_from (end_from p xs) ys
@@ -94,3 +94,11 @@ module _ (text : List ℕ) (u : IsUtf8 text) (r : Rest) (c : ℕ) (cs : List ℕ
         place = place_after;
         unmarked = λ z. absurd (omega (arith, len_utf8_bounds c, z));
       })
+
+Stands-next_by : (text : List ℕ) → IsUtf8 text → (r : Rest) (cs : List ℕ) → r.chars ≡ cs → Stands text r → Stands text (next r)
+Stands-next_by text u r [] none s = let stays : next r ≡ r = ap (next_from r.place) none ∙ ap (λ (x : List ℕ). record { chars = x; place = r.place }) (sym none) in rw stays s
+Stands-next_by text u r (c ∷ cs) one s = Stands-next text u r c cs one s
+
+pub Stands-nexts : (text : List ℕ) → IsUtf8 text → (n : ℕ) (r : Rest) → Stands text r → Stands text (nexts n r)
+Stands-nexts text u zero r s = s
+Stands-nexts text u (suc n) r s = Stands-nexts text u n (next r) (Stands-next_by text u r r.chars refl s)

@@ -2,8 +2,11 @@
 use Rattle.std.specs.Prelude.{ℕ, List, length, min, refl}
 use Rattle.std.specs.Coded.{Coded, code_by, coded×, coded_ℕ, coded_list}
 use Rattle.std.specs.FinMap as map
+use Rattle.el_outside.specs.Causes.{one_more}
 use Rattle.el_outside.specs.Planned.{Plan}
 use Rattle.el_outside.specs.Stored.{FileMap}
+use Rattle.el_outside.specs.declared.files.FileRead.{FileRead}
+use Rattle.el_outside.specs.declared.files.FileRead.TheVariants.{Missing}
 
 -- a source: the bytes that are left, and the most that one call gives
 pub record Supply : Type 0 where
@@ -31,6 +34,11 @@ pub record FailingHeap : Type 0 where
 pub record Shelf : Type 0 where
   pub map : FileMap
   pub misses : ℕ
+
+-- the misses after a read that gave this
+abbrev pub misses_after : ℕ → FileRead → ℕ
+misses_after n Missing = one_more n
+misses_after n _ = n
 
 pub record FailingShelf : Type 0 where
   pub shelf : Shelf

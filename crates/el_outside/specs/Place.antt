@@ -1,5 +1,5 @@
 -- Where the characters of a text stand: the offset, the line and the column of each.
-use Rattle.std.specs.Prelude.{◌≡◌, ℕ, ◌+◌, ◌-◌, Bool, false, if◌then◌else◌, ◌==◌, List, [], ◌∷◌, length, take, drop}
+use Rattle.std.specs.Prelude.{◌≡◌, ℕ, zero, suc, ◌+◌, ◌-◌, Bool, false, if◌then◌else◌, ◌==◌, List, [], ◌∷◌, length, take, drop}
 use Rattle.std.specs.Char.{len_utf8}
 use Rattle.std.specs.Str.{chars}
 use Rattle.el_outside.specs.declared.place.Pos.{Pos}
@@ -37,6 +37,11 @@ next_from p (c ∷ cs) = record { chars = cs; place = after c p }
 
 abbrev pub next : Rest → Rest
 next r = next_from r.place r.chars
+
+-- without the first n characters
+abbrev pub nexts : ℕ → Rest → Rest
+nexts zero r = r
+nexts (suc n) r = nexts n (next r)
 
 -- whether x comes first
 abbrev pub sees : ℕ → List ℕ → Bool

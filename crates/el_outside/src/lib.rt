@@ -6,6 +6,7 @@ mod cursor;
 mod edit;
 mod fail_plan;
 mod files;
+pub mod laws;
 mod line_table;
 mod many;
 mod memory_files;

@@ -1,10 +1,11 @@
-ghost use Rattle.std.specs.Prelude.{◌≡◌, ◌↔◌, ◌≤◌, ◌^◌, ◌<◌, Some, OnOk, OnErr, IfOk, IsTrue, IsSomeAnd};
+ghost use Rattle.std.specs.Prelude.{◌≡◌, ◌≢◌, ◌↔◌, ◌≤◌, ◌^◌, ◌<◌, Some, OnOk, OnErr, IfOk, IsTrue, IsSomeAnd};
 ghost use Rattle.std.specs.Option.{option_copied};
 ghost use Rattle.std.specs.Ordering.{nat_cmp};
 ghost use Rattle.std.specs.Cmp.Lexicographic.{slice_cmp};
 ghost use Rattle.std.specs.FinMap as map;
 ghost use Rattle.el_outside.specs.Causes.{Rose};
 ghost use Rattle.el_outside.specs.Planned.{fresh, fails_next, after_call};
+ghost use Rattle.el_outside.specs.Memory.{misses_after};
 ghost use Rattle.el_outside.specs.Stored.{Gives, IsWithin, Stores};
 
 use crate::fail_plan::FailPlan;
@@ -84,7 +85,16 @@ impl Files for SureFiles {
 
     ghost misses = { λ f. f.misses };
 
-    fn read(&mut self, alloc: Global, name: &str, limit: u32) -> FileRead {
+    fn read(&mut self, alloc: Global, name: &str, limit: u32) -> FileRead
+        ensures missed { self.new.misses ≡ misses_after self.old.misses result }
+        ensures gives { Gives (Some self.old.map) name.now limit result }
+        ensures within { IsWithin limit result }
+        ensures same { Some self.new.map ≡ Some self.old.map }
+        ensures faults { 0 ≤ 0 }
+        ensures misses { self.old.misses ≤ self.new.misses }
+        ensures failed { result ≡ FileRead.Failed → Rose 0 0 }
+        ensures missing { result ≡ FileRead.Missing → Rose self.old.misses self.new.misses }
+    {
         let Some(all) = find(&self.entries, name) else {
             self.misses = self.misses.saturating_add(1);
             return FileRead::Missing;
@@ -96,7 +106,14 @@ impl Files for SureFiles {
         }
     }
 
-    fn write(&mut self, name: &str, bytes: &[u8]) -> FileWrite {
+    fn write(&mut self, name: &str, bytes: &[u8]) -> FileWrite
+        ensures missed { self.new.misses ≡ self.old.misses }
+        ensures kept { result ≢ FileWrite.Done → self.new ≡ self.old }
+        ensures stores { Stores (Some self.old.map) (Some self.new.map) name.now bytes.now result }
+        ensures faults { 0 ≤ 0 }
+        ensures misses { self.old.misses ≤ self.new.misses }
+        ensures failed { result ≡ FileWrite.Failed → Rose 0 0 }
+    {
         match self.place(name, bytes) {
             Ok(()) => FileWrite::Done,
             Err(_) => FileWrite::NoMemory,
@@ -161,6 +178,7 @@ impl Files for MemoryFiles {
     fn read(&mut self, alloc: Global, name: &str, limit: u32) -> FileRead
         ensures listed { (result ≡ FileRead.Failed) ↔ IsTrue (fails_next self.old.plan) }
         ensures plan { self.new.plan ≡ after_call self.old.plan }
+        ensures missed { self.new.shelf.misses ≡ misses_after self.old.shelf.misses result }
         ensures gives { Gives (Some self.old.shelf.map) name.now limit result }
         ensures within { IsWithin limit result }
         ensures same { Some self.new.shelf.map ≡ Some self.old.shelf.map }
@@ -178,6 +196,8 @@ impl Files for MemoryFiles {
     fn write(&mut self, name: &str, bytes: &[u8]) -> FileWrite
         ensures listed { (result ≡ FileWrite.Failed) ↔ IsTrue (fails_next self.old.plan) }
         ensures plan { self.new.plan ≡ after_call self.old.plan }
+        ensures missed { self.new.shelf.misses ≡ self.old.shelf.misses }
+        ensures kept { result ≢ FileWrite.Done → self.new.shelf ≡ self.old.shelf }
         ensures stores { Stores (Some self.old.shelf.map) (Some self.new.shelf.map) name.now bytes.now result }
         ensures faults { self.old.plan.faults ≤ self.new.plan.faults }
         ensures misses { self.old.shelf.misses ≤ self.new.shelf.misses }
