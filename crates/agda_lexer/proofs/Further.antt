@@ -3,6 +3,7 @@ use Rattle.std.proofs.Common.{◌≡◌, ℕ, ◌+◌, ◌-◌, ◌<◌, ◌≤�
 use Rattle.std.proofs.lemmas.List.{length-append}
 use Rattle.std.proofs.lemmas.Bool.{eqb-true}
 use Rattle.el_outside.specs.Place.{Place, Rest, after, next, sees, end_from}
+use Rattle.el_outside.proofs.Stands.{end_from-append}
 use Rattle.el_outside.specs.Runs.{is_white, past, past_from}
 use Rattle.agda_lexer.specs.declared.scan.Class.TheVariants as class
 use Rattle.agda_lexer.specs.declared.token.LexKind.{LexKind}
@@ -20,10 +21,6 @@ pub record Further (r s : Rest) : Type 0 where
   pub taken : List ℕ
   pub split : r.chars ≡ taken ++ s.chars
   pub place_is : s.place ≡ end_from r.place taken
-
-pub end_from-append : (p : Place) (xs ys : List ℕ) → end_from p (xs ++ ys) ≡ end_from (end_from p xs) ys
-end_from-append p [] ys = refl
-end_from-append p (x ∷ xs) ys = end_from-append (after x p) xs ys
 
 pub here : (r : Rest) → Further r r
 here r = record { taken = []; split = refl; place_is = refl }

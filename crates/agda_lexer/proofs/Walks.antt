@@ -4,7 +4,7 @@ use Rattle.std.proofs.lemmas.Str.{len_utf8_bounds}
 use Rattle.std.proofs.lemmas.List.Elements.{All-nil, All-cons, All-head, All-tail, All-weaker}
 use Rattle.std.specs.Str.{chars, encode_utf8_all, IsUtf8, IsCharBoundary}
 use Rattle.std.specs.List.{All}
-use Rattle.el_outside.specs.Place.{Place, Rest, after, start, end_from, pos, pos_of}
+use Rattle.el_outside.specs.Place.{Place, Rest, after, start, pos, pos_of}
 use Rattle.agda_lexer.specs.declared.token.LexKind.{LexKind}
 use Rattle.agda_lexer.specs.declared.token.Token.{Token}
 use Rattle.agda_lexer.specs.declared.token.TokenKind.{TokenKind}
@@ -15,7 +15,7 @@ use Rattle.agda_lexer.specs.Tokens.{Placed, Cut, nothing, goes_on, cut_from, cut
 use Rattle.agda_lexer.specs.Laws.{Rise, IsOnBorders, IsPlaced, Join, EndsAt, IsWhite, IsLongest, IsCovered, tokens_up_to_fault}
 use Rattle.agda_lexer.proofs.Steps.{rest, whole}
 use Rattle.agda_lexer.proofs.Further.{Further, here, then, step, piece_goes, takes}
-use Rattle.agda_lexer.proofs.Places.{Stands, stands, at_end_from}
+use Rattle.agda_lexer.proofs.Places.{Stands, stands, at_least}
 use Rattle.agda_lexer.proofs.Fits.{FitsPiece, piece_fits}
 use Rattle.agda_lexer.proofs.Turns.{placed, at_end, one_turn, start_le}
 
@@ -27,9 +27,6 @@ pub record IsRead (text : List ℕ) (p : Placed) : Type 0 where
   pub rises : p.from.at < p.to.at
   pub white : IsWhite text p.piece p
   pub longest : IsLongest text p.piece p
-
-at_least : (p : Place) (xs : List ℕ) → p.at ≤ (end_from p xs).at
-at_least p xs = omega (arith, at_end_from p xs)
 
 rises_to : (c : ℕ) (tail : List ℕ) (at : Place) (s : Rest) → Further (rest tail (after c at)) s → at.at < s.place.at
 rises_to c tail at s f = omega (arith, ap (λ (p : Place). p.at) f.place_is, at_least (after c at) f.taken, len_utf8_bounds c)
