@@ -27,11 +27,11 @@ impl Model for SureFiles {
     ghost use Rattle.std.specs.FinMap as map;
     ghost use Rattle.std.specs.Ordering.{nat_cmp};
     ghost use Rattle.std.specs.Cmp.Lexicographic.{slice_cmp};
-    ghost use Rattle.el_outside.specs.Memory.{Shelf, shelf_code};
+    ghost use Rattle.el_outside.specs.Memory.{FilesState, files_code};
 
-    ghost Value = { Shelf };
+    ghost Value = { FilesState };
 
-    ghost coded = { shelf_code };
+    ghost coded = { files_code };
 
     ghost view = { λ f. record { map = map.from_entries {R = slice_cmp nat_cmp} f.entries.items; misses = f.misses } };
 }
@@ -124,28 +124,28 @@ impl Files for SureFiles {
 /// Files that are held here, and whose calls of the numbers in `fails` fail.
 #[derive(Drop)]
 pub struct MemoryFiles {
-    shelf: SureFiles,
+    files: SureFiles,
     plan: FailPlan,
 }
 
 impl Model for MemoryFiles {
-    ghost use Rattle.el_outside.specs.Memory.{FailingShelf, failing_shelf_code};
+    ghost use Rattle.el_outside.specs.Memory.{FailingFiles, failing_files_code};
 
-    ghost Value = { FailingShelf };
+    ghost Value = { FailingFiles };
 
-    ghost coded = { failing_shelf_code };
+    ghost coded = { failing_files_code };
 
-    ghost view = { λ f. record { shelf = f.shelf; plan = f.plan } };
+    ghost view = { λ f. record { files = f.files; plan = f.plan } };
 }
 
 impl MemoryFiles {
     /// Without files. Calls are counted from 1, reads and writes together.
     pub fn new(alloc: Global, fails: Vec<u64>) -> Result<MemoryFiles, NoMemory>
-        ensures shelf { IfOk result (λ f. f.shelf ≡ record { map = map.empty; misses = 0 }) }
+        ensures files { IfOk result (λ f. f.files ≡ record { map = map.empty; misses = 0 }) }
         ensures plan { IfOk result (λ f. f.plan ≡ fresh fails.items) }
     {
         Ok(MemoryFiles {
-            shelf: SureFiles::new(alloc)?,
+            files: SureFiles::new(alloc)?,
             plan: FailPlan::new(fails),
         })
     }
@@ -153,60 +153,60 @@ impl MemoryFiles {
     /// Gives the file of this name these bytes, and makes it where there is none. It never fails by
     /// the plan, and is no call that the plan counts.
     pub fn place(&mut self, name: &str, bytes: &[u8]) -> Result<(), NoMemory>
-        ensures ok { OnOk result (self.new.shelf ≡ record self.old.shelf { map = map.insert self.old.shelf.map name.now bytes.now }) }
-        ensures err { OnErr result (self.new.shelf ≡ self.old.shelf) }
+        ensures ok { OnOk result (self.new.files ≡ record self.old.files { map = map.insert self.old.files.map name.now bytes.now }) }
+        ensures err { OnErr result (self.new.files ≡ self.old.files) }
         ensures plan { self.new.plan ≡ self.old.plan }
     {
-        self.shelf.place(name, bytes)
+        self.files.place(name, bytes)
     }
 
     /// The bytes of the file of this name, if there is one. Takes no memory.
     pub fn bytes(&self, name: &str) -> Option<&[u8]>
-        ensures { option_copied result ≡ map.get self.now.shelf.map name.now }
+        ensures { option_copied result ≡ map.get self.now.files.map name.now }
     {
-        self.shelf.bytes(name)
+        self.files.bytes(name)
     }
 }
 
 impl Files for MemoryFiles {
-    ghost stored = { λ f. Some f.shelf.map };
+    ghost stored = { λ f. Some f.files.map };
 
     ghost faults = { λ f. f.plan.faults };
 
-    ghost misses = { λ f. f.shelf.misses };
+    ghost misses = { λ f. f.files.misses };
 
     fn read(&mut self, alloc: Global, name: &str, limit: u32) -> FileRead
         ensures listed { (result ≡ FileRead.Failed) ↔ IsTrue (fails_next self.old.plan) }
         ensures plan { self.new.plan ≡ after_call self.old.plan }
-        ensures missed { self.new.shelf.misses ≡ misses_after self.old.shelf.misses result }
-        ensures gives { Gives (Some self.old.shelf.map) name.now limit result }
+        ensures missed { self.new.files.misses ≡ misses_after self.old.files.misses result }
+        ensures gives { Gives (Some self.old.files.map) name.now limit result }
         ensures within { IsWithin limit result }
-        ensures same { Some self.new.shelf.map ≡ Some self.old.shelf.map }
+        ensures same { Some self.new.files.map ≡ Some self.old.files.map }
         ensures faults { self.old.plan.faults ≤ self.new.plan.faults }
-        ensures misses { self.old.shelf.misses ≤ self.new.shelf.misses }
+        ensures misses { self.old.files.misses ≤ self.new.files.misses }
         ensures failed { result ≡ FileRead.Failed → Rose self.old.plan.faults self.new.plan.faults }
-        ensures missing { result ≡ FileRead.Missing → Rose self.old.shelf.misses self.new.shelf.misses }
+        ensures missing { result ≡ FileRead.Missing → Rose self.old.files.misses self.new.files.misses }
     {
         if self.plan.fails_now() {
             return FileRead::Failed;
         }
-        self.shelf.read(alloc, name, limit)
+        self.files.read(alloc, name, limit)
     }
 
     fn write(&mut self, name: &str, bytes: &[u8]) -> FileWrite
         ensures listed { (result ≡ FileWrite.Failed) ↔ IsTrue (fails_next self.old.plan) }
         ensures plan { self.new.plan ≡ after_call self.old.plan }
-        ensures missed { self.new.shelf.misses ≡ self.old.shelf.misses }
-        ensures kept { result ≢ FileWrite.Done → self.new.shelf ≡ self.old.shelf }
-        ensures stores { Stores (Some self.old.shelf.map) (Some self.new.shelf.map) name.now bytes.now result }
+        ensures missed { self.new.files.misses ≡ self.old.files.misses }
+        ensures kept { result ≢ FileWrite.Done → self.new.files ≡ self.old.files }
+        ensures stores { Stores (Some self.old.files.map) (Some self.new.files.map) name.now bytes.now result }
         ensures faults { self.old.plan.faults ≤ self.new.plan.faults }
-        ensures misses { self.old.shelf.misses ≤ self.new.shelf.misses }
+        ensures misses { self.old.files.misses ≤ self.new.files.misses }
         ensures failed { result ≡ FileWrite.Failed → Rose self.old.plan.faults self.new.plan.faults }
     {
         if self.plan.fails_now() {
             return FileWrite::Failed;
         }
-        self.shelf.write(name, bytes)
+        self.files.write(name, bytes)
     }
 }
 

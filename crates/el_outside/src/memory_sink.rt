@@ -17,9 +17,9 @@ pub struct SureSink {
 
 impl Model for SureSink {
     ghost use Rattle.std.specs.Prelude.{◌<◌};
-    ghost use Rattle.el_outside.specs.Memory.{Heap};
+    ghost use Rattle.el_outside.specs.Memory.{SinkState};
 
-    ghost Value = { Heap };
+    ghost Value = { SinkState };
 
     ghost view = { λ s. record { bytes = s.bytes.items; most = s.most } };
 
@@ -72,41 +72,41 @@ impl Sink for SureSink {
 /// A sink that holds what was put, and whose calls of the numbers in `fails` fail.
 #[derive(Drop)]
 pub struct MemorySink {
-    heap: SureSink,
+    sink: SureSink,
     plan: FailPlan,
 }
 
 impl Model for MemorySink {
-    ghost use Rattle.el_outside.specs.Memory.{FailingHeap};
+    ghost use Rattle.el_outside.specs.Memory.{FailingSink};
 
-    ghost Value = { FailingHeap };
+    ghost Value = { FailingSink };
 
-    ghost view = { λ s. record { heap = s.heap; plan = s.plan } };
+    ghost view = { λ s. record { sink = s.sink; plan = s.plan } };
 }
 
 impl MemorySink {
     /// An empty sink. One call takes at most `most` bytes. Calls are counted from 1.
     pub fn new(alloc: Global, most: u32, fails: Vec<u64>) -> Result<MemorySink, NoMemory>
         requires { 0 < most }
-        ensures heap { IfOk result (λ s. s.heap ≡ record { bytes = []; most = most }) }
+        ensures sink { IfOk result (λ s. s.sink ≡ record { bytes = []; most = most }) }
         ensures plan { IfOk result (λ s. s.plan ≡ fresh fails.items) }
     {
         Ok(MemorySink {
-            heap: SureSink::new(alloc, most)?,
+            sink: SureSink::new(alloc, most)?,
             plan: FailPlan::new(fails),
         })
     }
 
     /// The bytes that were put. Takes no memory.
     pub fn bytes(&self) -> &[u8]
-        ensures { result.now ≡ self.now.heap.bytes }
+        ensures { result.now ≡ self.now.sink.bytes }
     {
-        self.heap.bytes()
+        self.sink.bytes()
     }
 }
 
 impl Sink for MemorySink {
-    ghost written = { λ s. Some s.heap.bytes };
+    ghost written = { λ s. Some s.sink.bytes };
 
     ghost faults = { λ s. s.plan.faults };
 
@@ -114,18 +114,18 @@ impl Sink for MemorySink {
         requires { 0 < length bytes.now }
         ensures listed { IsErrOf result PutError.Failed ↔ IsTrue (fails_next self.old.plan) }
         ensures plan { self.new.plan ≡ after_call self.old.plan }
-        ensures count { IfOk result (λ n. n ≡ min (length bytes.now) self.old.heap.most) }
-        ensures most { self.new.heap.most ≡ self.old.heap.most }
+        ensures count { IfOk result (λ n. n ≡ min (length bytes.now) self.old.sink.most) }
+        ensures most { self.new.sink.most ≡ self.old.sink.most }
         ensures some { IfOk result (λ n. 0 < n) }
         ensures bound { IfOk result (λ n. n ≤ length bytes.now) }
-        ensures bytes { WriteAppends (Some self.old.heap.bytes) (Some self.new.heap.bytes) result bytes.now }
+        ensures bytes { WriteAppends (Some self.old.sink.bytes) (Some self.new.sink.bytes) result bytes.now }
         ensures later { self.old.plan.faults ≤ self.new.plan.faults }
         ensures failed { IsErrOf result PutError.Failed → Rose self.old.plan.faults self.new.plan.faults }
     {
         if self.plan.fails_now() {
             return Err(PutError::Failed);
         }
-        self.heap.put(bytes)
+        self.sink.put(bytes)
     }
 }
 

@@ -18,9 +18,9 @@ pub struct SureSource {
 
 impl Model for SureSource {
     ghost use Rattle.std.specs.Prelude.{◌<◌, ◌≤◌, length, drop};
-    ghost use Rattle.el_outside.specs.Memory.{Supply};
+    ghost use Rattle.el_outside.specs.Memory.{SourceState};
 
-    ghost Value = { Supply };
+    ghost Value = { SourceState };
 
     ghost view = { λ s. record { left = drop s.at s.bytes.items; most = s.most } };
 
@@ -61,34 +61,34 @@ impl Source for SureSource {
 /// A source that holds its bytes, and whose calls of the numbers in `fails` fail.
 #[derive(Drop)]
 pub struct MemorySource {
-    supply: SureSource,
+    source: SureSource,
     plan: FailPlan,
 }
 
 impl Model for MemorySource {
-    ghost use Rattle.el_outside.specs.Memory.{FailingSupply};
+    ghost use Rattle.el_outside.specs.Memory.{FailingSource};
 
-    ghost Value = { FailingSupply };
+    ghost Value = { FailingSource };
 
-    ghost view = { λ s. record { supply = s.supply; plan = s.plan } };
+    ghost view = { λ s. record { source = s.source; plan = s.plan } };
 }
 
 impl MemorySource {
     /// One call gives at most `most` bytes. Calls are counted from 1. Takes no memory.
     pub fn new(bytes: Vec<u8>, most: u32, fails: Vec<u64>) -> MemorySource
         requires { 0 < most }
-        ensures supply { result.supply ≡ record { left = bytes.items; most = most } }
+        ensures source { result.source ≡ record { left = bytes.items; most = most } }
         ensures plan { result.plan ≡ fresh fails.items }
     {
         MemorySource {
-            supply: SureSource::new(bytes, most),
+            source: SureSource::new(bytes, most),
             plan: FailPlan::new(fails),
         }
     }
 }
 
 impl Source for MemorySource {
-    ghost left = { λ s. Some s.supply.left };
+    ghost left = { λ s. Some s.source.left };
 
     ghost faults = { λ s. s.plan.faults };
 
@@ -96,16 +96,16 @@ impl Source for MemorySource {
         requires { 0 < length into.old }
         ensures listed { IsErr result ↔ IsTrue (fails_next self.old.plan) }
         ensures plan { self.new.plan ≡ after_call self.old.plan }
-        ensures count { IfOk result (λ n. n ≡ given self.old.supply (length into.old)) }
-        ensures most { self.new.supply.most ≡ self.old.supply.most }
+        ensures count { IfOk result (λ n. n ≡ given self.old.source (length into.old)) }
+        ensures most { self.new.source.most ≡ self.old.source.most }
         ensures bound { IfOk result (λ n. n ≤ length into.new) }
-        ensures bytes { ReadConsumes (Some self.old.supply.left) (Some self.new.supply.left) result into.new }
+        ensures bytes { ReadConsumes (Some self.old.source.left) (Some self.new.source.left) result into.new }
         ensures cause { HasCause self.old.plan.faults self.new.plan.faults result }
     {
         if self.plan.fails_now() {
             return Err(Failed);
         }
-        self.supply.take(into)
+        self.source.take(into)
     }
 }
 

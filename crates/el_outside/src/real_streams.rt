@@ -1,4 +1,6 @@
-ghost use Rattle.std.specs.Prelude.{◌≡◌};
+ghost use Rattle.std.specs.Prelude.{◌≡◌, ◌<◌, ◌≤◌, length, IfOk, IfErr, IsErrOf};
+ghost use Rattle.std.specs.Io.KnownBytes.{WriteAppends};
+ghost use Rattle.el_outside.specs.Causes.{Rose};
 
 use crate::{Failed, PutError, Sink, Source};
 use std::io::{Read, Write};
@@ -58,7 +60,15 @@ impl<W: Write> Sink for RealSink<W> {
 
     ghost faults = { λ s. s.faults };
 
-    fn put(&mut self, bytes: &[u8]) -> Result<usize, PutError> {
+    fn put(&mut self, bytes: &[u8]) -> Result<usize, PutError>
+        requires { 0 < length bytes.now }
+        ensures err { IfErr result (λ e. e ≡ PutError.Failed) }
+        ensures some { IfOk result (λ n. 0 < n) }
+        ensures bound { IfOk result (λ n. n ≤ length bytes.now) }
+        ensures bytes { WriteAppends (⟦<RealSink<W> as Sink>⟧.written self.old) (⟦<RealSink<W> as Sink>⟧.written self.new) result bytes.now }
+        ensures later { ⟦<RealSink<W> as Sink>⟧.faults self.old ≤ ⟦<RealSink<W> as Sink>⟧.faults self.new }
+        ensures failed { IsErrOf result PutError.Failed → Rose (⟦<RealSink<W> as Sink>⟧.faults self.old) (⟦<RealSink<W> as Sink>⟧.faults self.new) }
+    {
         match self.inner.write(bytes) {
             Ok(n) if n > 0 => Ok(n),
             _ => {
