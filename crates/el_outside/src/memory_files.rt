@@ -86,13 +86,12 @@ impl Files for SureFiles {
     ghost misses = { λ f. f.misses };
 
     fn read(&mut self, alloc: Global, name: &str, limit: u32) -> FileRead
+        ensures never_fails { result ≢ FileRead.Failed }
         ensures missed { self.new.misses ≡ misses_after self.old.misses result }
         ensures gives { Gives (Some self.old.map) name.now limit result }
         ensures within { IsWithin limit result }
         ensures same { Some self.new.map ≡ Some self.old.map }
-        ensures faults { 0 ≤ 0 }
         ensures misses { self.old.misses ≤ self.new.misses }
-        ensures failed { result ≡ FileRead.Failed → Rose 0 0 }
         ensures missing { result ≡ FileRead.Missing → Rose self.old.misses self.new.misses }
     {
         let Some(all) = find(&self.entries, name) else {
@@ -107,12 +106,11 @@ impl Files for SureFiles {
     }
 
     fn write(&mut self, name: &str, bytes: &[u8]) -> FileWrite
+        ensures never_fails { result ≢ FileWrite.Failed }
         ensures missed { self.new.misses ≡ self.old.misses }
         ensures kept { result ≢ FileWrite.Done → self.new ≡ self.old }
         ensures stores { Stores (Some self.old.map) (Some self.new.map) name.now bytes.now result }
-        ensures faults { 0 ≤ 0 }
         ensures misses { self.old.misses ≤ self.new.misses }
-        ensures failed { result ≡ FileWrite.Failed → Rose 0 0 }
     {
         match self.place(name, bytes) {
             Ok(()) => FileWrite::Done,

@@ -1,4 +1,4 @@
-ghost use Rattle.std.specs.Prelude.{◌≡◌, ◌↔◌, ◌<◌, ◌≤◌, [], length, min, Some, IfOk, IsErrOf, IsTrue};
+ghost use Rattle.std.specs.Prelude.{◌≡◌, ◌↔◌, ◌<◌, ◌≤◌, [], length, min, Some, IfOk, IfErr, IsErrOf, IsTrue};
 ghost use Rattle.std.specs.Io.KnownBytes.{WriteAppends};
 ghost use Rattle.el_outside.specs.Causes.{Rose};
 ghost use Rattle.el_outside.specs.Planned.{fresh, fails_next, after_call};
@@ -53,13 +53,12 @@ impl Sink for SureSink {
 
     fn put(&mut self, bytes: &[u8]) -> Result<usize, PutError>
         requires { 0 < length bytes.now }
+        ensures never_fails { IfErr result (λ e. e ≡ PutError.NoMemory) }
         ensures count { IfOk result (λ n. n ≡ min (length bytes.now) self.old.most) }
         ensures most { self.new.most ≡ self.old.most }
         ensures some { IfOk result (λ n. 0 < n) }
         ensures bound { IfOk result (λ n. n ≤ length bytes.now) }
         ensures bytes { WriteAppends (Some self.old.bytes) (Some self.new.bytes) result bytes.now }
-        ensures later { 0 ≤ 0 }
-        ensures failed { IsErrOf result PutError.Failed → Rose 0 0 }
     {
         let n = bytes.len().min(self.most as usize);
         match self.bytes.extend_from_slice(&bytes[..n]) {

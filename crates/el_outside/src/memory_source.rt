@@ -1,4 +1,4 @@
-ghost use Rattle.std.specs.Prelude.{◌≡◌, ◌↔◌, ◌<◌, ◌≤◌, length, Some, IfOk, IsTrue, IsErr};
+ghost use Rattle.std.specs.Prelude.{◌≡◌, ◌↔◌, ◌<◌, ◌≤◌, length, Some, IfOk, IsTrue, IsOk, IsErr};
 ghost use Rattle.std.specs.Io.KnownBytes.{ReadConsumes};
 ghost use Rattle.el_outside.specs.Causes.{HasCause};
 ghost use Rattle.el_outside.specs.Planned.{fresh, fails_next, after_call};
@@ -44,11 +44,11 @@ impl Source for SureSource {
 
     fn take(&mut self, into: &mut [u8]) -> Result<usize, Failed>
         requires { 0 < length into.old }
+        ensures never_fails { IsOk result }
         ensures count { IfOk result (λ n. n ≡ given self.old (length into.old)) }
         ensures most { self.new.most ≡ self.old.most }
         ensures bound { IfOk result (λ n. n ≤ length into.new) }
         ensures bytes { ReadConsumes (Some self.old.left) (Some self.new.left) result into.new }
-        ensures cause { HasCause 0 0 result }
     {
         let rest = &self.bytes[self.at..];
         let n = rest.len().min(into.len()).min(self.most as usize);
