@@ -1,5 +1,5 @@
 -- The tokens stay in their order.
-use Rattle.std.proofs.Common.{◌≡◌, ℕ, zero, suc, ◌+◌, Bool, true, false, cond, ◌||◌, ◌&&◌, List, [], ◌∷◌, ◌++◌, length, map, Result, Ok, Err, refl, sym, ap, ◌∙◌, append_assoc, nat_lt, ◌==◌}
+use Rattle.std.proofs.Common.{◌≡◌, ℕ, ◌+◌, Bool, true, false, cond, ◌&&◌, List, [], ◌∷◌, ◌++◌, length, map, Result, Ok, Err, refl, sym, ap, ◌∙◌, append_assoc, nat_lt, ◌==◌}
 use Rattle.std.proofs.lemmas.List.{append-nil}
 use Rattle.el_outside.specs.declared.Pos.{Pos}
 use Rattle.agda_lexer.specs.declared.Token.{Token}
@@ -8,7 +8,7 @@ use Rattle.agda_layout.specs.declared.laid.Laid.TheVariants.{Tok, Open, Next, Cl
 use Rattle.agda_layout.specs.declared.header.Header.{Header}
 use Rattle.agda_layout.specs.declared.header.Header.TheVariants.{Absent, Whole, Broken}
 use Rattle.agda_layout.specs.Headers.{header_of}
-use Rattle.agda_layout.specs.Blocks.{State, is_right_of, begun, emptied, Closing, closed, is_at, with_next, placed, first_on_line, step, and_then, steps, ended, out_of, alone, start, behind, behind_header, laid_by, laid, opens_block}
+use Rattle.agda_layout.specs.Blocks.{State, is_right_of, emptied, Closing, closed, is_at, with_next, placed, first_on_line, step, and_then, steps, ended, out_of, alone, start, behind, behind_header, laid_by, laid}
 use Rattle.agda_layout.specs.Laws.{numbers, count, KeepsTokens}
 
 numbers-append : (xs ys : List Laid) → numbers (xs ++ ys) ≡ numbers xs ++ numbers ys

@@ -1,15 +1,15 @@
 -- A line is refused exactly where it begins left of the file's block.
-use Rattle.std.proofs.Common.{◌≡◌, ℕ, zero, suc, ◌+◌, ◌<◌, ◌≤◌, Bool, true, false, cond, not, ◌&&◌, List, [], ◌∷◌, ◌++◌, length, drop, Option, Some, None, Result, Ok, Err, refl, sym, ap, ◌∙◌, ltb, eqb, arith, ◌==◌, nat_lt}
+use Rattle.std.proofs.Common.{◌≡◌, ℕ, ◌+◌, ◌<◌, ◌≤◌, Bool, true, false, cond, not, ◌&&◌, List, [], ◌∷◌, ◌++◌, Option, Some, None, Result, Ok, Err, refl, ap, ◌∙◌, ltb, arith, ◌==◌}
 use Rattle.std.proofs.lemmas.Bool.Decides.{nat_tests}
 use Rattle.std.proofs.lemmas.Bool.{ltb-true}
 use Rattle.el_outside.specs.declared.Pos.{Pos}
 use Rattle.agda_lexer.specs.declared.Token.{Token}
 use Rattle.agda_layout.specs.declared.laid.Laid.{Laid}
-use Rattle.agda_layout.specs.declared.laid.Laid.TheVariants.{Tok, Open, Next, Close}
+use Rattle.agda_layout.specs.declared.laid.Laid.TheVariants.{Tok, Close}
 use Rattle.agda_layout.specs.declared.header.Header.{Header}
 use Rattle.agda_layout.specs.declared.header.Header.TheVariants.{Absent, Whole, Broken}
 use Rattle.agda_layout.specs.Headers.{header_of}
-use Rattle.agda_layout.specs.Blocks.{State, is_right_of, begun, emptied, Closing, closed, with_next, placed, first_on_line, step, and_then, steps, ended, out_of, alone, start, behind, behind_header, laid_by, laid}
+use Rattle.agda_layout.specs.Blocks.{State, is_right_of, begun, emptied, Closing, closed, first_on_line, step, and_then, steps, out_of, laid_by, laid}
 use Rattle.agda_layout.specs.Laws.{left_of, outside_of, block_tokens, refusal, IsRefusedOutside}
 
 -- columns from the inside out, each right of the next, down to that of the file's block

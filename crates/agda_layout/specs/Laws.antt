@@ -1,5 +1,5 @@
 -- What is so of the layout of every list of tokens.
-use Rattle.std.specs.Prelude.{◌≡◌, ℕ, zero, suc, ◌+◌, Bool, not, ◌&&◌, if◌then◌else◌, ◌==◌, nat_lt, List, [], ◌∷◌, length, drop, Option, Some, None, Result, Ok, Err}
+use Rattle.std.specs.Prelude.{◌≡◌, ℕ, zero, suc, ◌+◌, not, ◌&&◌, if◌then◌else◌, ◌==◌, nat_lt, List, [], ◌∷◌, length, drop, Option, Some, None, Result, Ok, Err}
 use Rattle.el_outside.specs.declared.Pos.{Pos}
 use Rattle.agda_lexer.specs.declared.Token.{Token}
 use Rattle.agda_layout.specs.declared.laid.Laid.{Laid}

@@ -1,5 +1,5 @@
 -- A piece of white space is one white character, and a run is longest.
-use Rattle.std.proofs.Common.{◌≡◌, ℕ, ◌⊎◌, inl, inr, Bool, true, false, cond, eqb, List, [], ◌∷◌, ◌||◌, ◌==◌, ◌&&◌, not, Option, Some, None, Result, Ok, Err, refl, sym, ap, ◌∙◌}
+use Rattle.std.proofs.Common.{◌≡◌, ℕ, ◌⊎◌, inl, inr, Bool, true, false, cond, eqb, List, [], ◌∷◌, ◌&&◌, not, Option, Some, None, Result, Ok, Err, refl}
 use Rattle.std.proofs.lemmas.Bool.{eqb-true}
 use Rattle.std.specs.Str.{encode_utf8_all}
 use Rattle.std.specs.Char.{encode_utf8}
@@ -13,7 +13,7 @@ use Rattle.agda_lexer.specs.declared.piece.Piece.{Piece}
 use Rattle.agda_lexer.specs.declared.piece.Piece.TheVariants as piece
 use Rattle.agda_lexer.specs.Characters.{is_special, is_in}
 use Rattle.agda_lexer.specs.Runs.{is_name_kind, run_kind}
-use Rattle.agda_lexer.specs.Pieces.{Reading, close_of, closed, pragma_close, pragma_of, pragma, is_remark, first_word, comment, brace, run_front, run_past, kind_at, name_at, run_of, run, follows_dot, dot, sign, sign_of, piece_at}
+use Rattle.agda_lexer.specs.Pieces.{Reading, closed, pragma_of, pragma, brace, run_past, kind_at, name_at, run_of, run, follows_dot, dot, sign_of, piece_at}
 use Rattle.agda_lexer.specs.Laws.{begins_run}
 use Rattle.agda_lexer.proofs.Steps.{rest, whole}
 

@@ -1,9 +1,10 @@
 -- Each piece takes a character at least, and what is left is a part of what there was.
-use Rattle.std.proofs.Common.{◌≡◌, ℕ, suc, ◌+◌, ◌-◌, ◌<◌, ◌≤◌, Bool, true, false, cond, eqb, List, [], ◌∷◌, ◌++◌, ◌||◌, ◌==◌, ◌&&◌, not, length, Option, Some, None, Result, Ok, Err, OnOk, refl, sym, ap, ◌∙◌, append_assoc, arith}
+use Rattle.std.proofs.Common.{◌≡◌, ℕ, ◌+◌, ◌-◌, ◌<◌, ◌≤◌, Bool, true, false, cond, eqb, List, [], ◌∷◌, ◌++◌, ◌&&◌, not, length, Option, Some, None, Result, Ok, Err, OnOk, refl, sym, ap, ◌∙◌, append_assoc, arith}
 use Rattle.std.proofs.lemmas.List.{length-append}
 use Rattle.std.proofs.lemmas.Bool.{eqb-true}
 use Rattle.el_outside.specs.Place.{Place, Rest, after, next, sees, end_from}
-use Rattle.el_outside.specs.Runs.{is_white, front, past, past_from}
+use Rattle.el_outside.proofs.Stands.{end_from-append}
+use Rattle.el_outside.specs.Runs.{is_white, past, past_from}
 use Rattle.agda_lexer.specs.declared.scan.Class.TheVariants as class
 use Rattle.agda_lexer.specs.declared.token.LexKind.{LexKind}
 use Rattle.agda_lexer.specs.declared.token.TokenKind.{TokenKind}
@@ -11,7 +12,7 @@ use Rattle.agda_lexer.specs.declared.token.TokenKind.TheVariants as kind
 use Rattle.agda_lexer.specs.declared.piece.Piece.{Piece}
 use Rattle.agda_lexer.specs.Characters.{is_special, is_in}
 use Rattle.agda_lexer.specs.Runs.{is_name_kind}
-use Rattle.agda_lexer.specs.Pieces.{Reading, close_of, closed, are_close, pragma_close, pragma_of, pragma, is_remark, first_word, comment, brace, run_past, kind_at, name_at, run_of, run, follows_dot, dot, sign, sign_of, piece_at, Reads}
+use Rattle.agda_lexer.specs.Pieces.{Reading, close_of, closed, are_close, pragma_close, pragma_of, pragma, comment, brace, run_past, kind_at, name_at, run_of, run, follows_dot, dot, sign_of, piece_at, Reads}
 use Rattle.agda_lexer.proofs.Steps.{rest, whole}
 
 -- ---- what is left later
@@ -20,10 +21,6 @@ pub record Further (r s : Rest) : Type 0 where
   pub taken : List ℕ
   pub split : r.chars ≡ taken ++ s.chars
   pub place_is : s.place ≡ end_from r.place taken
-
-pub end_from-append : (p : Place) (xs ys : List ℕ) → end_from p (xs ++ ys) ≡ end_from (end_from p xs) ys
-end_from-append p [] ys = refl
-end_from-append p (x ∷ xs) ys = end_from-append (after x p) xs ys
 
 pub here : (r : Rest) → Further r r
 here r = record { taken = []; split = refl; place_is = refl }

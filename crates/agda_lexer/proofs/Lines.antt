@@ -1,15 +1,12 @@
 -- What follows a line feed changes no token before it.
-use Rattle.std.proofs.Common.{◌≡◌, ℕ, zero, suc, ◌+◌, ◌<◌, ◌≤◌, Bool, true, false, cond, eqb, List, [], ◌∷◌, ◌++◌, length, Option, Some, None, Result, Ok, Err, refl, sym, ap, ◌∙◌, append_assoc, arith}
+use Rattle.std.proofs.Common.{◌≡◌, ℕ, zero, suc, ◌+◌, ◌≤◌, Bool, true, false, cond, eqb, List, [], ◌∷◌, ◌++◌, length, None, Ok, Err, refl, sym, ap, ◌∙◌, append_assoc, arith}
 use Rattle.std.proofs.lemmas.List.{length-append}
-use Rattle.std.proofs.lemmas.Str.{chars-append, chars_past_char, encode_ascii, IsUtf8-append, IsUtf8-encode}
-use Rattle.std.specs.Str.{chars, encode_utf8_all, IsUtf8}
-use lib.Utf8.{encode}
-use Rattle.el_outside.specs.Place.{Place, Rest, after, next, start, end_from, origin, after_mark}
-use Rattle.agda_lexer.specs.declared.token.Token.{Token}
-use Rattle.agda_lexer.specs.declared.piece.Piece.{Piece}
+use Rattle.std.proofs.lemmas.Str.{chars-append, chars_past_char, encode_ascii, IsUtf8-append}
+use Rattle.std.specs.Str.{chars, IsUtf8}
+use Rattle.el_outside.specs.Place.{Place, Rest, after, start, origin, after_mark}
 use Rattle.agda_lexer.specs.declared.piece.Piece.TheVariants as piece
 use Rattle.agda_lexer.specs.Pieces.{Reading, piece_at, is_run}
-use Rattle.agda_lexer.specs.Tokens.{Placed, Cut, nothing, goes_on, turn, cut_from, cut_of, tokens_of}
+use Rattle.agda_lexer.specs.Tokens.{Placed, Cut, goes_on, cut_from, cut_of, tokens_of}
 use Rattle.agda_lexer.specs.Laws.{Rise, tokens_up_to_fault, IsContinued}
 use Rattle.agda_lexer.proofs.Steps.{rest, whole}
 use Rattle.agda_lexer.proofs.Further.{Further, here, then, step, piece_goes, takes}

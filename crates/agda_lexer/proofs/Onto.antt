@@ -1,5 +1,5 @@
 -- What a line feed and more behind a text change of what is read in it: nothing that was read whole.
-use Rattle.std.proofs.Common.{◌≡◌, ℕ, ◌+◌, ◌-◌, Bool, true, false, cond, eqb, List, [], ◌∷◌, ◌++◌, ◌||◌, ◌==◌, ◌&&◌, not, Option, Some, None, Result, Ok, Err, refl, sym, ap, ◌∙◌}
+use Rattle.std.proofs.Common.{◌≡◌, ℕ, ◌+◌, ◌-◌, Bool, true, false, cond, eqb, List, [], ◌∷◌, ◌++◌, ◌||◌, ◌&&◌, not, Option, Some, None, Result, Ok, Err, refl, ap, ◌∙◌}
 use Rattle.std.proofs.lemmas.Bool.{eqb-true}
 use Rattle.std.specs.Str.{encode_utf8_all}
 use Rattle.el_outside.specs.Place.{Place, Rest, after, next, sees}
@@ -11,8 +11,8 @@ use Rattle.agda_lexer.specs.declared.token.TokenKind.TheVariants as kind
 use Rattle.agda_lexer.specs.declared.piece.Piece.{Piece}
 use Rattle.agda_lexer.specs.Characters.{is_special, is_in}
 use Rattle.agda_lexer.specs.Runs.{is_name_kind, run_kind}
-use Rattle.agda_lexer.specs.Pieces.{Reading, close_of, closed, are_close, pragma_close, is_close, word_front, first_word, is_remark, pragma_of, pragma, comment, brace, run_front, run_past, kind_at, name_at, run_of, run, follows_dot, dot, sign, sign_of, piece_at}
-use Rattle.agda_lexer.proofs.Steps.{rest, whole}
+use Rattle.agda_lexer.specs.Pieces.{Reading, close_of, closed, are_close, pragma_close, word_front, first_word, is_remark, pragma_of, pragma, comment, brace, run_front, run_past, kind_at, name_at, run_of, run, follows_dot, dot, sign, sign_of, piece_at}
+use Rattle.agda_lexer.proofs.Steps.{rest}
 
 module _ (b : List ℕ) where
   abbrev pub onto : Rest → Rest

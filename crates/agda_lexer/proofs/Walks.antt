@@ -1,21 +1,24 @@
 -- The pieces of a text from its beginning to its end: they join, and each is as its kind says.
-use Rattle.std.proofs.Common.{◌≡◌, ℕ, zero, suc, ◌+◌, ◌<◌, ◌≤◌, inl, inr, Bool, false, List, [], ◌∷◌, ◌++◌, length, drop, Option, Some, None, Result, Ok, Err, refl, sym, ap, ◌∙◌, arith}
+use Rattle.std.proofs.Common.{Option, None, ◌≡◌, ℕ, zero, suc, ◌+◌, ◌<◌, ◌≤◌, inl, inr, Bool, false, List, [], ◌∷◌, length, Some, Ok, Err, refl, sym, ap, ◌∙◌, arith}
 use Rattle.std.proofs.lemmas.Str.{len_utf8_bounds}
 use Rattle.std.proofs.lemmas.List.Elements.{All-nil, All-cons, All-head, All-tail, All-weaker}
 use Rattle.std.specs.Str.{chars, encode_utf8_all, IsUtf8, IsCharBoundary}
 use Rattle.std.specs.List.{All}
-use Rattle.el_outside.specs.Place.{Place, Rest, after, start, end_from, pos, pos_of}
+use Rattle.std.specs.Prelude.{IfOk}
+use Rattle.el_outside.specs.Place.{Place, Rest, after, start, pos, pos_of}
 use Rattle.agda_lexer.specs.declared.token.LexKind.{LexKind}
 use Rattle.agda_lexer.specs.declared.token.Token.{Token}
+use Rattle.agda_lexer.specs.declared.token.Lexed.{Lexed}
+use Rattle.el_outside.specs.declared.Pos.{Pos}
 use Rattle.agda_lexer.specs.declared.token.TokenKind.{TokenKind}
 use Rattle.agda_lexer.specs.declared.piece.Piece.{Piece}
 use Rattle.agda_lexer.specs.declared.piece.Piece.TheVariants as piece
 use Rattle.agda_lexer.specs.Pieces.{Reading, piece_at, is_run}
-use Rattle.agda_lexer.specs.Tokens.{Placed, Cut, nothing, goes_on, turn, cut_from, cut_of, tokens_of, token, with_token}
+use Rattle.agda_lexer.specs.Tokens.{Placed, Cut, nothing, goes_on, cut_from, cut_of, tokens_of, token, with_token, Outcome, outcome, lex_of}
 use Rattle.agda_lexer.specs.Laws.{Rise, IsOnBorders, IsPlaced, Join, EndsAt, IsWhite, IsLongest, IsCovered, tokens_up_to_fault}
 use Rattle.agda_lexer.proofs.Steps.{rest, whole}
-use Rattle.agda_lexer.proofs.Further.{Further, here, then, step, piece_goes, takes, length_le}
-use Rattle.agda_lexer.proofs.Places.{Stands, stands, at_end_from}
+use Rattle.agda_lexer.proofs.Further.{Further, here, then, step, piece_goes, takes}
+use Rattle.agda_lexer.proofs.Places.{Stands, stands, at_least}
 use Rattle.agda_lexer.proofs.Fits.{FitsPiece, piece_fits}
 use Rattle.agda_lexer.proofs.Turns.{placed, at_end, one_turn, start_le}
 
@@ -27,9 +30,6 @@ pub record IsRead (text : List ℕ) (p : Placed) : Type 0 where
   pub rises : p.from.at < p.to.at
   pub white : IsWhite text p.piece p
   pub longest : IsLongest text p.piece p
-
-at_least : (p : Place) (xs : List ℕ) → p.at ≤ (end_from p xs).at
-at_least p xs = omega (arith, at_end_from p xs)
 
 rises_to : (c : ℕ) (tail : List ℕ) (at : Place) (s : Rest) → Further (rest tail (after c at)) s → at.at < s.place.at
 rises_to c tail at s f = omega (arith, ap (λ (p : Place). p.at) f.place_is, at_least (after c at) f.taken, len_utf8_bounds c)
@@ -168,3 +168,33 @@ is_covered text u = let w = all_walk text u in record {
 
 pub runs_longest : (text : List ℕ) → IsUtf8 text → All (λ p. IsLongest text p.piece p) (cut_of text).pieces
 runs_longest text u = All-weaker (IsRead text) (λ p. IsLongest text p.piece p) (λ p read. read.longest) (cut_of text).pieces (all_walk text u).each
+
+-- ---- what `lex` answers
+
+abbrev IfLexed : (Lexed → Type 0) → Outcome → Type 0
+IfLexed P o = IfOk o P
+
+if_lexed : (P : List Token → Type 0) (ps : List Placed) (fault : Option (Pos × LexKind)) → P (tokens_of ps) → IfLexed (λ l. P l.tokens) (outcome ps fault)
+if_lexed P ps None h = h
+if_lexed P ps (Some e) h = tt
+
+rise_count : (at n : ℕ) (ts : List Token) → at ≤ n → Rise at ts → All (λ t. t.span.end ≤ n) ts → at + length ts ≤ n
+rise_count at n [] le h ends = omega arith
+rise_count at n (t ∷ ts) le h ends =
+    let end : t.span.end ≤ n = All-head (λ (t : Token). t.span.end ≤ n) t ts ends in
+    omega (arith, h.0, h.1.0, rise_count t.span.end n ts end h.1.1 (All-tail (λ (t : Token). t.span.end ≤ n) t ts ends))
+
+pub lexed_rise : (text : List ℕ) → IsUtf8 text → IfOk (lex_of text) (λ l. Rise 0 l.tokens)
+unfolding lex_of
+lexed_rise text u = if_lexed (Rise 0) (cut_of text).pieces (cut_of text).fault (spans_rise text u)
+
+pub lexed_on_borders : (text : List ℕ) → IsUtf8 text → IfOk (lex_of text) (λ l. All (IsOnBorders text) l.tokens)
+unfolding lex_of
+lexed_on_borders text u = if_lexed (All (IsOnBorders text)) (cut_of text).pieces (cut_of text).fault (on_borders text u)
+
+pub lexed_few : (text : List ℕ) → IsUtf8 text → IfOk (lex_of text) (λ l. length l.tokens ≤ length text)
+unfolding lex_of
+lexed_few text u =
+    let ends : All (λ t. t.span.end ≤ length text) (tokens_up_to_fault text) = All-weaker (IsOnBorders text) (λ (t : Token). t.span.end ≤ length text) (λ t b. b.end.0) (tokens_up_to_fault text) (on_borders text u) in
+    let few : length (tokens_up_to_fault text) ≤ length text = omega (arith, rise_count 0 (length text) (tokens_up_to_fault text) (omega arith) (spans_rise text u) ends) in
+    if_lexed (λ (ts : List Token). length ts ≤ length text) (cut_of text).pieces (cut_of text).fault few

@@ -2,14 +2,14 @@
 use Rattle.std.specs.Prelude.{◌≡◌, ℕ, ◌<◌, ◌≤◌, ◌⊎◌, Bool, true, false, List, [], ◌∷◌, ◌++◌, length, drop, Option, Some, None}
 use Rattle.std.specs.Str.{chars, IsCharBoundary}
 use Rattle.std.specs.List.{All}
-use Rattle.el_outside.specs.Place.{Place, Rest, start, pos, pos_of, sees}
+use Rattle.el_outside.specs.Place.{Place, start, pos, pos_of}
 use Rattle.el_outside.specs.Runs.{is_white}
 use Rattle.el_outside.specs.declared.Pos.{Pos}
 use Rattle.agda_lexer.specs.declared.scan.Class.TheVariants as class
 use Rattle.agda_lexer.specs.declared.token.LexKind.{LexKind}
 use Rattle.agda_lexer.specs.declared.token.Token.{Token}
 use Rattle.agda_lexer.specs.declared.piece.Piece.{Piece}
-use Rattle.agda_lexer.specs.declared.piece.Piece.TheVariants.{White, Remark, Sign, Run}
+use Rattle.agda_lexer.specs.declared.piece.Piece.TheVariants.{White, Run}
 use Rattle.agda_lexer.specs.Characters.{is_in}
 use Rattle.agda_lexer.specs.Tokens.{Placed, cut_of, tokens_of}
 

@@ -1,5 +1,6 @@
-//! Cuts a text into tokens, each with its place: the first of the passes that read a file. White space, comments and
-//! pragmas are left out; the first place at which nothing stands that the language knows is the error.
+//! Cuts a text into tokens, each with its place: the first of the passes that read a file. White
+//! space, comments and pragmas are left out. The error is the first place at which nothing stands
+//! that the language knows.
 #![tactic(auto)]
 
 pub mod laws;

@@ -6,7 +6,7 @@ use std::test::Fail;
 /// A token by its kind, the bytes of its span, and its line and column.
 type Row = (TokenKind, u32, u32, u32, u32);
 
-const TOKENS: [(&str, &[Row]); 31] = [
+const TOKENS: [(&str, &[Row]); 36] = [
     ("", &[]),
     ("\u{FEFF}", &[]),
     // A mark that comes first takes no column, later it is white space of one column, as are tabs and CR.
@@ -175,9 +175,18 @@ const TOKENS: [(&str, &[Row]); 31] = [
     ),
     ("{-\nλ-}x", &[(Name, 7, 8, 2, 4)]),
     ("a\n", &[(Name, 0, 1, 1, 1)]),
+    // The end of the text behind what could go on.
+    ("{", &[(Symbol(Sym::BraceOpen), 0, 1, 1, 1)]),
+    ("-", &[(Name, 0, 1, 1, 1)]),
+    ("--", &[]),
+    (
+        "Se λ",
+        &[(Name, 0, 2, 1, 1), (Symbol(Sym::Lambda), 3, 5, 1, 4)],
+    ),
+    ("a.\u{3B2}", &[(Qualified, 0, 4, 1, 1)]),
 ];
 
-const ERRORS: [(&str, u32, u32, LexKind); 31] = [
+const ERRORS: [(&str, u32, u32, LexKind); 40] = [
     ("{-", 1, 1, LexKind::OpenComment),
     ("{-}", 1, 1, LexKind::OpenComment),
     ("a\n {- {- -}", 2, 2, LexKind::OpenComment),
@@ -209,6 +218,56 @@ const ERRORS: [(&str, u32, u32, LexKind); 31] = [
     ("a_b", 1, 1, LexKind::BadToken),
     ("a\u{7F}b", 1, 1, LexKind::BadToken),
     ("a\u{2983}", 1, 1, LexKind::BadToken),
+    ("{-#", 1, 1, LexKind::OpenComment),
+    ("{- @\n", 1, 1, LexKind::OpenComment),
+    ("@ {-", 1, 1, LexKind::BadToken),
+    (". a", 1, 1, LexKind::BadToken),
+    ("(.)", 1, 2, LexKind::BadToken),
+    ("a).", 1, 3, LexKind::BadToken),
+    ("R.1", 1, 2, LexKind::BadToken),
+    ("Set₁₀₀₀₀₀₁", 1, 1, LexKind::BadToken),
+    ("a\u{2984}", 1, 1, LexKind::BadToken),
+];
+
+const WORDS: [(&str, Word); 38] = [
+    ("abstract", Word::Abstract),
+    ("coinductive", Word::Coinductive),
+    ("constructor", Word::Constructor),
+    ("data", Word::Data),
+    ("do", Word::Do),
+    ("eta-equality", Word::EtaEquality),
+    ("field", Word::Field),
+    ("hiding", Word::Hiding),
+    ("import", Word::Import),
+    ("in", Word::In),
+    ("inductive", Word::Inductive),
+    ("infix", Word::Infix),
+    ("infixl", Word::Infixl),
+    ("infixr", Word::Infixr),
+    ("instance", Word::Instance),
+    ("let", Word::Let),
+    ("macro", Word::Macro),
+    ("module", Word::Module),
+    ("mutual", Word::Mutual),
+    ("no-eta-equality", Word::NoEtaEquality),
+    ("open", Word::Open),
+    ("overlap", Word::Overlap),
+    ("pattern", Word::Pattern),
+    ("postulate", Word::Postulate),
+    ("primitive", Word::Primitive),
+    ("private", Word::Private),
+    ("Prop", Word::Prop),
+    ("public", Word::Public),
+    ("quote", Word::Quote),
+    ("record", Word::Record),
+    ("renaming", Word::Renaming),
+    ("rewrite", Word::Rewrite),
+    ("syntax", Word::Syntax),
+    ("unquote", Word::Unquote),
+    ("using", Word::Using),
+    ("variable", Word::Variable),
+    ("where", Word::Where),
+    ("with", Word::With),
 ];
 
 /// Where the first comment or pragma begins.
@@ -262,6 +321,18 @@ fn finds_the_first_comment(rt: HostRuntime) -> Result<(), Fail> {
             .comment
             .map(|pos| (pos.line, pos.col));
         assert_eq!(rt; comment, place, "{text}");
+    }
+    Ok(())
+}
+
+#[test]
+fn reserves_words(rt: HostRuntime) -> Result<(), Fail> {
+    for (text, word) in WORDS {
+        assert!(rt; text.len() < 100);
+        let lexed = lex(rt.alloc(), text)?;
+        let tokens = lexed.tokens.as_slice();
+        assert_eq!(rt; tokens.len(), 1, "{text}");
+        assert_eq!(rt; tokens[0].kind, Keyword(word), "{text}");
     }
     Ok(())
 }
