@@ -1,0 +1,9 @@
+pub mod Accepted
+pub mod Endings
+pub mod Judging
+pub mod Loading
+pub mod Places
+pub mod Reading
+pub mod Sent
+pub mod Signatures
+pub mod Unique

@@ -1,0 +1,9 @@
+pub mod Accept
+pub mod Ask
+pub mod Borders
+pub mod Form
+pub mod Judged
+pub mod Load
+pub mod Said
+pub mod Status
+pub mod Transcript

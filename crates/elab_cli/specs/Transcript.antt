@@ -1,0 +1,141 @@
+-- What the program writes and how it ends, by what the words ask for and by the files as they stood at the call.
+use Rattle.std.specs.Prelude.{◌≡◌, ◌≢◌, ◌⊎◌, ℕ, List, [], ◌++◌, ⊤, None, Some, codes}
+use Rattle.std.specs.declared.option.Option.{Option}
+use Rattle.std.specs.Fmt.{decimal}
+use Rattle.std.specs.FinMap.{get}
+use Rattle.std.specs.Io.KnownBytes.{Appends}
+use Rattle.el_outside.specs.Causes.{Rose}
+use Rattle.el_outside.specs.Stored.{FileMap}
+use Rattle.elab_cli.specs.declared.words.Ask.{Ask}
+use Rattle.elab_cli.specs.declared.words.Ask.TheVariants.{Wrong, Check}
+use Rattle.elab_cli.specs.Load.{HasVerdict}
+use Rattle.elab_cli.specs.declared.load.Verdict.{Verdict}
+use Rattle.elab_cli.specs.declared.load.Verdict.TheVariants.{Unsupported, Refused, Complete}
+use Rattle.elab_cli.specs.declared.status.Status.{Status}
+use Rattle.elab_cli.specs.declared.status.Status.TheVariants.{Done, Open, FileError, Usage, FilesFault, InputFault, OutputFault, NoMemory, InputTooLong, Missing}
+
+-- ---- what is written
+
+abbrev pub usage_line : List ℕ
+usage_line = codes "usage: elab_cli check NAME | session | gen SEED N; options --fuel N, --depth N, --order N\n"
+
+-- the line for a text of which this is said
+abbrev pub bytes_of : Verdict → List ℕ
+bytes_of Unsupported = codes "error 1:1 Unsupported\n"
+bytes_of Refused = codes "error 1:1 Refused\n"
+bytes_of (Complete n) = codes "complete declarations=" ++ decimal n ++ codes " inserted=0 goals=0 unsolved=0 suspended=0 shadowed=0\n"
+
+-- the status once that line went out
+abbrev pub status_of : Verdict → Status
+status_of Unsupported = FileError
+status_of Refused = FileError
+status_of (Complete n) = Done
+
+-- of these bytes a part went out, and not all
+pub record AppendsPart (old new : Option (List ℕ)) (whole : List ℕ) : Type 0 where
+  pub sent : List ℕ
+  pub rest : List ℕ
+  pub parts : sent ++ rest ≡ whole
+  pub short : rest ≢ []
+  pub appends : Appends old new sent
+
+-- ---- `check NAME`
+
+-- what stands under the name: where the files tell nothing, it may be anything
+abbrev pub MayHold : Option FileMap → List ℕ → Option (List ℕ) → Type 0
+MayHold None name file = ⊤
+MayHold (Some m) name file = get m name ≡ file
+
+-- v is said of the text that stands under the name
+pub record IsJudged (files : Option FileMap) (name : List ℕ) (v : Verdict) : Type 0 where
+  pub text : List ℕ
+  pub holds : MayHold files name (Some text)
+  pub judged : HasVerdict text v
+
+-- all of the line went out, and the status is that line's
+pub record Wrote (files : Option FileMap) (name : List ℕ) (old new : Option (List ℕ)) (status : Status) : Type 0 where
+  pub verdict : Verdict
+  pub judged : IsJudged files name verdict
+  pub meant : status_of verdict ≡ status
+  pub appends : Appends old new (bytes_of verdict)
+
+-- a part of the line went out
+pub record WrotePart (files : Option FileMap) (name : List ℕ) (old new : Option (List ℕ)) : Type 0 where
+  pub verdict : Verdict
+  pub judged : IsJudged files name verdict
+  pub part : AppendsPart old new (bytes_of verdict)
+
+-- the file is not there, and nothing went out
+pub record IsMissing (files : Option FileMap) (name : List ℕ) (old new : Option (List ℕ)) : Type 0 where
+  pub absent : MayHold files name None
+  pub appends : Appends old new []
+
+-- what each status says of a call for `check NAME`
+abbrev pub CheckAnswers : Option FileMap → List ℕ → Option (List ℕ) → Option (List ℕ) → Status → Type 0
+CheckAnswers files name old new Done = Wrote files name old new Done
+CheckAnswers files name old new FileError = Wrote files name old new FileError
+CheckAnswers files name old new Missing = IsMissing files name old new
+CheckAnswers files name old new FilesFault = Appends old new []
+CheckAnswers files name old new OutputFault = WrotePart files name old new
+CheckAnswers files name old new NoMemory = Appends old new [] ⊎ WrotePart files name old new
+CheckAnswers files name old new Open = ⊥
+CheckAnswers files name old new Usage = ⊥
+CheckAnswers files name old new InputFault = ⊥
+CheckAnswers files name old new InputTooLong = ⊥
+
+-- ---- wrong words
+
+-- what each status says of a call with words that ask for nothing
+abbrev pub UsageAnswers : Option (List ℕ) → Option (List ℕ) → Status → Type 0
+UsageAnswers old new Usage = Appends old new usage_line
+UsageAnswers old new OutputFault = AppendsPart old new usage_line
+UsageAnswers old new NoMemory = AppendsPart old new usage_line
+UsageAnswers old new Done = ⊥
+UsageAnswers old new Open = ⊥
+UsageAnswers old new FileError = ⊥
+UsageAnswers old new FilesFault = ⊥
+UsageAnswers old new InputFault = ⊥
+UsageAnswers old new InputTooLong = ⊥
+UsageAnswers old new Missing = ⊥
+
+-- ---- every call
+
+-- what each status says of the bytes that went out
+abbrev pub Answers : Ask → Option FileMap → Option (List ℕ) → Option (List ℕ) → Status → Type 0
+Answers Wrong files old new status = UsageAnswers old new status
+Answers (Check name) files old new status = CheckAnswers files name old new status
+
+-- the counts of faults and misses of what was handed in
+pub record Counts : Type 0 where
+  pub files : ℕ
+  pub misses : ℕ
+  pub input : ℕ
+  pub output : ℕ
+
+-- a status that speaks of a fault or a miss comes only where that count rose
+abbrev pub Caused : Status → Counts → Counts → Type 0
+Caused Missing old new = Rose old.misses new.misses
+Caused FilesFault old new = Rose old.files new.files
+Caused InputFault old new = Rose old.input new.input
+Caused OutputFault old new = Rose old.output new.output
+Caused Done old new = ⊤
+Caused Open old new = ⊤
+Caused FileError old new = ⊤
+Caused Usage old new = ⊤
+Caused NoMemory old new = ⊤
+Caused InputTooLong old new = ⊤
+
+-- no count rose
+pub record NothingFailed (old new : Counts) : Type 0 where
+  pub files : ¬ (Rose old.files new.files)
+  pub misses : ¬ (Rose old.misses new.misses)
+  pub input : ¬ (Rose old.input new.input)
+  pub output : ¬ (Rose old.output new.output)
+
+-- the statuses that come where no count rises
+abbrev pub EndsWell : Ask → Status → Type 0
+EndsWell Wrong Usage = ⊤
+EndsWell (Check name) Done = ⊤
+EndsWell (Check name) FileError = ⊤
+EndsWell ask NoMemory = ⊤
+EndsWell ask status = ⊥

@@ -1,0 +1,141 @@
+ghost use Rattle.std.specs.Prelude.{◌≡◌, ◌≤◌, ◌<◌, map, string_bytes, length, OnOk, OnErr, IsErrOf};
+ghost use Rattle.std.specs.Io.KnownBytes.{Appends};
+ghost use Rattle.el_outside.specs.Causes.{Rose};
+ghost use Rattle.elab_cli.specs.Ask.{ask_of};
+ghost use Rattle.elab_cli.specs.Transcript.{Answers, AppendsPart, Caused, CheckAnswers, EndsWell, NothingFailed, UsageAnswers};
+ghost use Rattle.elab_cli.specs.Said.{HasSaid, Tells};
+
+use crate::Status;
+use crate::load::{Verdict, load};
+use crate::words::{Ask, read_words};
+use el_outside::{FileRead, Files, PutError, Sink, Source};
+use std::alloc::Global;
+
+/// The most bytes that a text may have.
+const LIMIT: u32 = 1_048_576;
+
+const USAGE: &str =
+    "usage: elab_cli check NAME | session | gen SEED N; options --fuel N, --depth N, --order N\n";
+
+/// Puts all of the bytes: what a call leaves is handed in again.
+fn put_all<O: Sink>(output: &mut O, bytes: &[u8]) -> Result<(), PutError>
+    ensures ok { OnOk result (Appends (O.written output.old) (O.written output.new) bytes.now) }
+    ensures err { OnErr result (AppendsPart (O.written output.old) (O.written output.new) bytes.now) }
+    ensures later { O.faults output.old ≤ O.faults output.new }
+    ensures failed { IsErrOf result PutError.Failed → Rose (O.faults output.old) (O.faults output.new) }
+{
+    let mut rest = bytes;
+    while !rest.is_empty() {
+        let n = output.put(rest)?;
+        let (_, after) = rest.split_at(n);
+        rest = after;
+    }
+    Ok(())
+}
+
+/// How it went with a line that was to go out.
+#[derive(Clone, Copy, Debug, PartialEq, Eq)]
+enum Said {
+    All,
+    Failed,
+    NoMemory,
+}
+
+/// Writes a line, handed over in one piece.
+fn say<O: Sink>(output: &mut O, line: &str) -> Said
+    requires { 0 < length line.now }
+    ensures bytes { HasSaid (O.written output.old) (O.written output.new) line.now result }
+    ensures cause { result ≡ Said.Failed → Rose (O.faults output.old) (O.faults output.new) }
+    ensures later { O.faults output.old ≤ O.faults output.new }
+{
+    match put_all(output, line.as_bytes()) {
+        Ok(()) => Said::All,
+        Err(PutError::Failed) => Said::Failed,
+        Err(PutError::NoMemory) => Said::NoMemory,
+    }
+}
+
+/// Writes the usage line.
+fn usage<O: Sink>(output: &mut O) -> Status
+    ensures answers { UsageAnswers (O.written output.old) (O.written output.new) result }
+    ensures failed { result ≡ Status.OutputFault → Rose (O.faults output.old) (O.faults output.new) }
+{
+    match say(output, USAGE) {
+        Said::All => Status::Usage,
+        Said::Failed => Status::OutputFault,
+        Said::NoMemory => Status::NoMemory,
+    }
+}
+
+/// Writes what is said of a text.
+fn tell<O: Sink>(alloc: Global, verdict: Verdict, output: &mut O) -> Status
+    ensures told { Tells verdict (O.written output.old) (O.written output.new) result }
+    ensures failed { result ≡ Status.OutputFault → Rose (O.faults output.old) (O.faults output.new) }
+{
+    let Ok(line) = verdict.line(alloc) else {
+        return Status::NoMemory;
+    };
+    match say(output, line.as_str()) {
+        Said::All => verdict.status(),
+        Said::Failed => Status::OutputFault,
+        Said::NoMemory => Status::NoMemory,
+    }
+}
+
+/// Reads the file, loads it, and writes the report or the error.
+fn check<F: Files, O: Sink>(alloc: Global, name: &str, files: &mut F, output: &mut O) -> Status
+    ensures answers { CheckAnswers (F.stored files.old) name.now (O.written output.old) (O.written output.new) result }
+    ensures files { F.stored files.new ≡ F.stored files.old }
+    ensures fault { result ≡ Status.FilesFault → Rose (F.faults files.old) (F.faults files.new) }
+    ensures missing { result ≡ Status.Missing → Rose (F.misses files.old) (F.misses files.new) }
+    ensures output { result ≡ Status.OutputFault → Rose (O.faults output.old) (O.faults output.new) }
+{
+    match files.read(alloc, name, LIMIT) {
+        FileRead::Bytes(text) => {
+            let Ok(verdict) = load(alloc, text.as_slice()) else {
+                return Status::NoMemory;
+            };
+            tell(alloc, verdict, output)
+        }
+        FileRead::Missing => Status::Missing,
+        FileRead::Failed => Status::FilesFault,
+        FileRead::NoMemory => Status::NoMemory,
+    }
+}
+
+/// All that the program does. The words are those after its name. The answer is the program's exit
+/// status: what was written by then is all that the status says, and each status has its cause.
+///
+/// The input is not touched, and the files are as they were.
+pub fn run<F: Files, I: Source, O: Sink>(
+    alloc: Global,
+    words: &[String],
+    files: &mut F,
+    input: &mut I,
+    output: &mut O,
+) -> Status
+    // What the words ask for decides which status may come, and the status says which bytes went out.
+    ensures answers { Answers (ask_of (map string_bytes words.now)) (F.stored files.old) (O.written output.old) (O.written output.new) result }
+
+    // A fault or a miss is answered only where its count rose in this call.
+    ensures cause { Caused result
+        (record { files = F.faults files.old; misses = F.misses files.old; input = I.faults input.old; output = O.faults output.old })
+        (record { files = F.faults files.new; misses = F.misses files.new; input = I.faults input.new; output = O.faults output.new }) }
+
+    // Where nothing fails, what was asked for is done, or memory ran out.
+    ensures completes { NothingFailed
+        (record { files = F.faults files.old; misses = F.misses files.old; input = I.faults input.old; output = O.faults output.old })
+        (record { files = F.faults files.new; misses = F.misses files.new; input = I.faults input.new; output = O.faults output.new })
+        → EndsWell (ask_of (map string_bytes words.now)) result }
+
+    ensures files { F.stored files.new ≡ F.stored files.old }
+    ensures input { input.new ≡ input.old }
+{
+    let Ok(ask) = read_words(alloc, words) else {
+        return Status::NoMemory;
+    };
+    match ask {
+        Ask::Wrong => usage(output),
+        Ask::Check(name) => check(alloc, name.as_str(), files, output),
+    }
+}
