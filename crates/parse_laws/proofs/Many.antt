@@ -1,8 +1,8 @@
 -- Items while they come: a parser of items gives a parser of their list.
-use Rattle.std.proofs.Common.{◌≡◌, ℕ, zero, suc, ◌≤◌, ◌<◌, ◌+◌, List, [], ◌∷◌, ◌++◌, length, Result, Ok, Err, Option, Some, None, refl, sym, ap, subst, ◌∙◌, append_assoc, arith}
+use Rattle.std.proofs.Common.{◌≡◌, ℕ, zero, suc, ◌≤◌, ◌<◌, ◌+◌, Bool, List, [], ◌∷◌, ◌++◌, length, Result, Ok, Err, Option, Some, None, refl, sym, ap, subst, ◌∙◌, append_assoc, arith}
 use Rattle.std.proofs.lemmas.List.{append-nil, length-append}
-use Rattle.parse_laws.specs.Parser.{Outcome, Parser, and_then, ◌>>=◌, pure, on_item, many_from, many}
-use Rattle.parse_laws.proofs.Good.{Agree, agree_behind, Language, Family, Viable, Took, Refused, GoodFor, Word, Good}
+use Rattle.parse_laws.specs.Parser.{Outcome, Parser, and_then, ◌>>=◌, pure, next_is, optional, on_item, many_from}
+use Rattle.parse_laws.proofs.Good.{Agree, agree_behind, Language, Family, Viable, Took, Refused, GoodFor, Word, Good, Seq, bind_good, pure_good, weaken, choose_good}
 
 -- the items one after the other; what an item may be depends on those before it
 abbrev pub AllOf : {S A : Type 0} → (List A → Language S A) → List A → Language S (List A)
@@ -147,10 +147,25 @@ module _ {S A : Type 0} (L : List A → Language S A) (item : ℕ → List A →
   turns zero found (u ∷ us) le lt = absurd (omega arith)
   turns (suc j) found ts le lt = turn j found ts le lt (turns j) (item n found ts) ((goodi found).at ts lt)
 
-  pub many_good : (found : List A) → Good (Behind L found) (λ m. many (item m) found) s n
-  unfolding many
-  many_good found = record { at = λ ts lt. go ts (many_from (item n) (length ts) found ts) (turns (length ts) found ts (omega arith) lt); word = record { value = found; tokens = []; reads = nothing_more L found [] refl } }
+  -- as many turns as the family has
+  pub many_good : s ≤ 1 → (found : List A) → Good (Behind L found) (λ m. many_from (item m) m found) s n
+  many_good le found = record { at = λ ts lt. go ts (many_from (item n) n found ts) (turns n found ts (omega arith) lt); word = record { value = found; tokens = []; reads = nothing_more L found [] refl } }
     where
-    go : (ts : List S) (r : Outcome S (List A)) → TurnsFor L item s found ts r → GoodFor (Behind L found) (λ m. many (item m) found) s ts r
-    go ts (Ok x) t = record { taken = t.taken; split = t.split; reads = t.reads; local = λ m new lt ok. t.local (length (t.taken ++ new)) m new (omega arith) lt ok }
-    go ts (Err k) t = record { taken = t.taken; rest = t.rest; split = t.split; left = t.left; viable = t.viable; local = λ m new lt ok. t.local (length (t.taken ++ new)) m new (omega arith) lt ok }
+    go : (ts : List S) (r : Outcome S (List A)) → TurnsFor L item s found ts r → GoodFor (Behind L found) (λ m. many_from (item m) m found) s ts r
+    go ts (Ok x) t = record { taken = t.taken; split = t.split; reads = t.reads; local = λ m new lt ok. t.local m m new (omega arith) lt ok }
+    go ts (Err k) t = record { taken = t.taken; rest = t.rest; split = t.split; left = t.left; viable = t.viable; local = λ m new lt ok. t.local m m new (omega arith) lt ok }
+
+-- an item, if one comes
+pub optional_good : {S A : Type 0} (test : S → Bool) (L : List A → Language S A) (found : List A) (p : Family S A) (s n : ℕ) → Good (L found) p s n → ((a : A) (c : List S) → L found a c → 0 < length c) → Good (Item L found) (λ m. optional test (p m)) s n
+optional_good {S = S} {A = A} test L found p s n good long =
+    choose_good test (Item L found) (λ m. p m >>= (λ a. pure (Some a))) (λ m. pure None) s n
+      (weaken _ _ (λ m. p m >>= (λ a. pure (Some a))) s n some (bind_good (L found) (λ a o c. (o ≡ Some a) × (c ≡ [])) p (λ a m. pure (Some a)) s n good (λ a. pure_good (Some a) s n)))
+      (weaken _ _ (λ m. pure None) s n none (pure_good None s n))
+  where
+  some : (o : Option A) (c : List S) → Seq (L found) (λ a o c. (o ≡ Some a) × (c ≡ [])) o c → Item L found o c
+  some o c q =
+      let is : c ≡ q.front = q.whole ∙ ap (λ (y : List S). q.front ++ y) q.second.1 ∙ append-nil q.front in
+      let l : L found q.value c = subst (λ (y : List S). L found q.value y) (sym is) q.first in
+      rw q.second.0 (l, long q.value c l)
+  none : (o : Option A) (c : List S) → (o ≡ None) × (c ≡ []) → Item L found o c
+  none o c h = rw h.0 h.1

@@ -50,8 +50,9 @@ unfoldable pub many_from : {S A : Type 0} → (List A → Parser S (Option A)) �
 many_from item zero found = pure found
 many_from item (suc n) found = item found >>= on_item found (many_from item n)
 
-unfoldable pub many : {S A : Type 0} → (List A → Parser S (Option A)) → List A → Parser S (List A)
-many item found = λ i. many_from item (length i) found i
+-- an item, if one comes
+abbrev pub optional : {S A : Type 0} → (S → Bool) → Parser S A → Parser S (Option A)
+optional test p = choose test (p >>= (λ a. pure (Some a))) (pure None)
 
 -- no token is left
 unfoldable pub at_end : {S : Type 0} → Parser S (Unit {0})
