@@ -1,0 +1,5 @@
+pub mod Characters
+pub mod Runs
+pub mod Pieces
+pub mod Tokens
+pub mod Found
