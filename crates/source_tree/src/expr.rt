@@ -1,3 +1,5 @@
+ghost use Rattle.std.specs.Prelude.{◌≡◌};
+
 use crate::place::{Name, Place};
 use sqlite_items::{Boxed, Items};
 
@@ -68,4 +70,60 @@ pub enum Binder {
 pub struct FieldValue {
     pub name: Name,
     pub value: Expr,
+}
+
+impl Expr {
+    ghost use Rattle.source_tree.specs.Places.{expr_place};
+
+    #[tactic(auto, unfolding(crate::specs::Places::expr_place))]
+    pub fn place(&self) -> Place
+        ensures { result ≡ expr_place self.now }
+    {
+        match self {
+            Expr::Pi(place, _, _)
+            | Expr::Forall(place, _, _)
+            | Expr::Lambda(place, _, _)
+            | Expr::Arrow(place, _, _)
+            | Expr::App(place, _, _)
+            | Expr::SetLevel(place, _)
+            | Expr::Hole(place)
+            | Expr::Underscore(place)
+            | Expr::Record(place, _) => *place,
+            Expr::Name(name) | Expr::Qualified(name) => name.place,
+        }
+    }
+}
+
+impl Arg {
+    ghost use Rattle.source_tree.specs.Places.{arg_place};
+
+    #[tactic(auto, unfolding(crate::specs::Places::arg_place))]
+    pub fn place(&self) -> Place
+        ensures { result ≡ arg_place self.now }
+    {
+        match self {
+            Arg::Plain(value) => value.place(),
+            Arg::Implicit(place, _)
+            | Arg::Named(place, _, _)
+            | Arg::Project(place, _)
+            | Arg::ProjectQualified(place, _) => *place,
+        }
+    }
+}
+
+impl Binder {
+    ghost use Rattle.source_tree.specs.Places.{binder_place};
+
+    #[tactic(auto, unfolding(crate::specs::Places::binder_place))]
+    pub fn place(&self) -> Place
+        ensures { result ≡ binder_place self.now }
+    {
+        match self {
+            Binder::Name(name) => name.place,
+            Binder::Explicit(place, _, _)
+            | Binder::Implicit(place, _, _)
+            | Binder::Braced(place, _)
+            | Binder::Underscore(place) => *place,
+        }
+    }
 }
