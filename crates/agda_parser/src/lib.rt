@@ -1,13 +1,13 @@
-// A library with one function.
+//! Reads the syntax tree of a file, or of one expression, from its tokens and blocks, by descent: what the grammar allows, and
+//! nothing else, and where it does not, the first token with which no text of the grammar begins so.
 #![tactic(auto)]
 
-ghost use Rattle.std.specs.Prelude.{◌≡◌};
-ghost use Rattle.agda_parser.specs.Echo.{echo_of};
+mod cursor;
+mod name;
+mod sign;
+mod stop;
 
-// The `ensures` clause is the contract: what `echo` returns is `echo_of` of its argument, a definition
-// in `specs/Echo.antt`, which a caller's clause can cite too.
-pub fn echo(x: usize) -> usize
-    ensures { result ≡ echo_of x }
-{
-    x
-}
+pub use cursor::Signs;
+pub use name::name_of;
+pub use sign::{Kind, Mark, Sign};
+pub use stop::Stop;
