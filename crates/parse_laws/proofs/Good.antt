@@ -231,3 +231,21 @@ end_good {S = S} s n = record { at = λ ts lt. at ts; word = record { value = tt
     other : (new : List S) → Agree (t ∷ ts) new → at_end new ≡ Err (length new)
     other [] ok = absurd ok
     other (u ∷ us) ok = refl
+
+-- ---- how much is left
+
+-- no more than m tokens are left
+abbrev pub UpTo : {S A : Type 0} → ℕ → Outcome S A → Type 0
+UpTo m (Ok x) = length x.1 ≤ m
+UpTo m (Err k) = k ≤ m
+
+pub good_up : {S A : Type 0} (L : Language S A) (p : Family S A) (s n : ℕ) → Good L p s n → (m : ℕ) (ts : List S) → length ts < s + n → length ts ≤ m → UpTo m (p n ts)
+good_up {S = S} {A = A} L p s n g m ts lt le = go (p n ts) (g.at ts lt)
+  where
+  go : (r : Outcome S A) → GoodFor L p s ts r → UpTo m r
+  go (Ok x) t = omega (arith, ap length t.split, length-append t.taken x.1)
+  go (Err k) t = omega (arith, ap length t.split, length-append t.taken t.rest, t.left)
+
+pub bind_up : {S A B : Type 0} (m : ℕ) (r : Outcome S A) (q : A → Parser S B) → UpTo m r → ((x : A) (ts : List S) → length ts ≤ m → UpTo m (q x ts)) → UpTo m (and_then r q)
+bind_up m (Ok x) q u f = f x.0 x.1 u
+bind_up m (Err k) q u f = u

@@ -2,23 +2,7 @@
 use Rattle.std.proofs.Common.{◌≡◌, ℕ, zero, suc, ◌≤◌, ◌<◌, ◌+◌, Bool, true, false, cond, List, [], ◌∷◌, ◌++◌, length, Result, Ok, Err, Option, Some, None, refl, sym, ap, subst, ◌∙◌, append_assoc, arith}
 use Rattle.std.proofs.lemmas.List.{append-nil, length-append}
 use Rattle.parse_laws.specs.Parser.{Outcome, Parser, and_then, ◌>>=◌, next_is}
-use Rattle.parse_laws.proofs.Good.{Language, Family, Good, GoodFor, Took, Refused, Agree, agree_behind}
-
--- no more than m tokens are left
-abbrev pub UpTo : {S A : Type 0} → ℕ → Outcome S A → Type 0
-UpTo m (Ok x) = length x.1 ≤ m
-UpTo m (Err k) = k ≤ m
-
-pub good_up : {S A : Type 0} (L : Language S A) (p : Family S A) (s n : ℕ) → Good L p s n → (m : ℕ) (ts : List S) → length ts < s + n → length ts ≤ m → UpTo m (p n ts)
-good_up {S = S} {A = A} L p s n g m ts lt le = go (p n ts) (g.at ts lt)
-  where
-  go : (r : Outcome S A) → GoodFor L p s ts r → UpTo m r
-  go (Ok x) t = omega (arith, ap length t.split, length-append t.taken x.1)
-  go (Err k) t = omega (arith, ap length t.split, length-append t.taken t.rest, t.left)
-
-pub bind_up : {S A B : Type 0} (m : ℕ) (r : Outcome S A) (q : A → Parser S B) → UpTo m r → ((x : A) (ts : List S) → length ts ≤ m → UpTo m (q x ts)) → UpTo m (and_then r q)
-bind_up m (Ok x) q u f = f x.0 x.1 u
-bind_up m (Err k) q u f = u
+use Rattle.parse_laws.proofs.Good.{Language, Family, Good, GoodFor, Took, Refused, Agree, agree_behind, UpTo}
 
 -- names in front of other tokens
 abbrev pub lined : {S B : Type 0} → (B → S) → List B → List S → List S
@@ -93,11 +77,14 @@ module _ {S A B : Type 0} (test : S → Bool) (name : B → S) (whole : (s : S) 
   second ts l b (Err k) t u = record { taken = t.taken; rest = t.rest; split = t.split; left = t.left; viable = t.viable; local = λ m new lt ok. rw (settled ts l t.taken t.rest new t.split (omega (arith, t.left)) ok ∙ b) (t.local m new lt ok) }
 
   -- a word of the second serves
-  pub look_good : Good L p s n → Good L q s n → Eats test name p s n → Eats test name q s n → Good L look s n
+  pub look_good : Good L p s n → Good L q s n
+      → ((xs : List B) (u : List S) → next_is test u ≡ false → length (lined name xs u) < s + n → ahead (lined name xs u) ≡ true → UpTo (length u) (p n (lined name xs u)))
+      → ((xs : List B) (u : List S) → next_is test u ≡ false → length (lined name xs u) < s + n → ahead (lined name xs u) ≡ false → UpTo (length u) (q n (lined name xs u)))
+      → Good L look s n
   look_good gp gq ep eq = record { at = λ ts lt. go ts lt (led test name whole ts) (ahead ts) refl; word = gq.word }
     where
     go : (ts : List S) → length ts < s + n → (l : Led test name ts) → (b : Bool) → ahead ts ≡ b → GoodFor L look s ts (cond b (p n ts) (q n ts))
     go ts lt l true e = first ts l e (p n ts) (gp.at ts lt)
-        (subst (λ (y : List S). UpTo (length l.after) (p n y)) (sym l.split) (ep l.names l.after l.stops (subst (λ (y : List S). length y < s + n) l.split lt)))
+        (subst (λ (y : List S). UpTo (length l.after) (p n y)) (sym l.split) (ep l.names l.after l.stops (subst (λ (y : List S). length y < s + n) l.split lt) (ap ahead (sym l.split) ∙ e)))
     go ts lt l false e = second ts l e (q n ts) (gq.at ts lt)
-        (subst (λ (y : List S). UpTo (length l.after) (q n y)) (sym l.split) (eq l.names l.after l.stops (subst (λ (y : List S). length y < s + n) l.split lt)))
+        (subst (λ (y : List S). UpTo (length l.after) (q n y)) (sym l.split) (eq l.names l.after l.stops (subst (λ (y : List S). length y < s + n) l.split lt) (ap ahead (sym l.split) ∙ e)))

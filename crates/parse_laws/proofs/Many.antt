@@ -2,7 +2,7 @@
 use Rattle.std.proofs.Common.{◌≡◌, ℕ, zero, suc, ◌≤◌, ◌<◌, ◌+◌, Bool, List, [], ◌∷◌, ◌++◌, length, Result, Ok, Err, Option, Some, None, refl, sym, ap, subst, ◌∙◌, append_assoc, arith}
 use Rattle.std.proofs.lemmas.List.{append-nil, length-append}
 use Rattle.parse_laws.specs.Parser.{Outcome, Parser, and_then, ◌>>=◌, pure, next_is, optional, on_item, many_from}
-use Rattle.parse_laws.proofs.Good.{Agree, agree_behind, Language, Family, Viable, Took, Refused, GoodFor, Word, Good, Seq, bind_good, pure_good, weaken, choose_good}
+use Rattle.parse_laws.proofs.Good.{Agree, agree_behind, Language, Family, Viable, Took, Refused, GoodFor, Word, Good, Seq, bind_good, pure_good, weaken, choose_good, UpTo}
 
 -- the items one after the other; what an item may be depends on those before it
 abbrev pub AllOf : {S A : Type 0} → (List A → Language S A) → List A → Language S (List A)
@@ -146,6 +146,14 @@ module _ {S A : Type 0} (L : List A → Language S A) (item : ℕ → List A →
   turns zero found [] le lt = record { taken = []; split = refl; reads = nothing_more L found [] refl; local = λ j m new le lt ok. stop_zero found j m new ok }
   turns zero found (u ∷ us) le lt = absurd (omega arith)
   turns (suc j) found ts le lt = turn j found ts le lt (turns j) (item n found ts) ((goodi found).at ts lt)
+
+  -- what is left after the turns
+  pub turns_up : (j : ℕ) (found : List A) (ts : List S) (m : ℕ) → length ts ≤ j → length ts < s + n → length ts ≤ m → UpTo m (many_from (item n) j found ts)
+  turns_up j found ts m le lt up = go (many_from (item n) j found ts) (turns j found ts le lt)
+    where
+    go : (r : Outcome S (List A)) → TurnsFor L item s found ts r → UpTo m r
+    go (Ok x) t = omega (arith, ap length t.split, length-append t.taken x.1)
+    go (Err k) t = omega (arith, ap length t.split, length-append t.taken t.rest, t.left)
 
   -- as many turns as the family has
   pub many_good : s ≤ 1 → (found : List A) → Good (Behind L found) (λ m. many_from (item m) m found) s n
