@@ -3,3 +3,7 @@ pub mod Names
 pub mod Trees
 pub mod Grammar
 pub mod Syntax
+pub mod Nesting
+pub mod Reading
+pub mod NestingView
+pub mod Tokens

@@ -69,3 +69,18 @@ left_of NoMemory = 0
 abbrev pub Reads : {A : Type 0} → Outcome Sign A → Result A Stop → Input → Type 0
 Reads o (Ok a) rest = o ≡ Ok (a, rest)
 Reads o (Err e) rest = e ≢ NoMemory → o ≡ Err (left_of e)
+
+-- the same of a function that reads all that is left
+abbrev pub Answers : {A : Type 0} → Outcome Sign A → Result A Stop → Type 0
+Answers o (Ok a) = o ≡ Ok (a, [])
+Answers o (Err (Unexpected n)) = o ≡ Err n
+Answers o (Err NoMemory) = Unit {0}
+
+-- something was read, and nothing is left
+abbrev pub Checked : {A : Type 0} → Outcome Sign A → Type 0
+Checked {A = A} o = (a : A) × (o ≡ Ok (a, []))
+
+abbrev pub Checks : {A : Type 0} → Outcome Sign A → Result (Unit {0}) Stop → Type 0
+Checks o (Ok u) = Checked o
+Checks o (Err (Unexpected n)) = o ≡ Err n
+Checks o (Err NoMemory) = Unit {0}

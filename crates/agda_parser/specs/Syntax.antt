@@ -20,7 +20,7 @@ use Rattle.agda_parser.specs.declared.quantifier.Quantifier.TheVariants as q
 use Rattle.agda_parser.specs.Names.{name_of}
 use Rattle.agda_parser.specs.Trees.{close_of, typed_binder, applied}
 use Rattle.agda_parser.specs.Signs.{Input, is, sees, expect, begins_atom, sees_atom, colon_follows, equals_follows}
-use Rattle.parse_laws.specs.Parser.{Outcome, Parser, ◌>>=◌, ◌>>◌, pure, choose, optional, many_from}
+use Rattle.parse_laws.specs.Parser.{Outcome, Parser, ◌>>=◌, ◌>>◌, pure, choose, optional, many_from, at_end}
 
 abbrev pub begins_typed : Sign → Bool
 begins_typed s = if is k.ParenOpen s then true else is k.BraceOpen s
@@ -216,3 +216,10 @@ module _ (text : List ℕ) where
   unfoldable pub expr : ℕ → Parser Sign Expr
   expr zero = λ i. Err (length i)
   expr (suc turns) = level turns (expr turns)
+
+  -- an expression and nothing behind it
+  unfoldable pub whole_expr : ℕ → Parser Sign Expr
+  whole_expr turns = do
+    x ← expr turns
+    at_end
+    pure x

@@ -1,6 +1,7 @@
 ghost use Rattle.std.specs.Prelude.{◌≡◌, length};
 ghost use Rattle.agda_parser.specs.Signs as spec;
 ghost use Rattle.agda_parser.specs.Signs.{Reads};
+ghost use Rattle.parse_laws.specs.Parser as laws;
 
 use crate::sign::{Kind, Mark, Sign};
 use crate::stop::Stop;
@@ -66,6 +67,19 @@ impl<'a> Signs<'a> {
                     Err(Stop::Unexpected(self.rest.len()))
                 }
             }
+        }
+    }
+
+    /// Nothing is left.
+    #[tactic(auto, unfolding(parse_laws::specs::Parser::at_end))]
+    pub fn at_end(&mut self) -> Result<(), Stop>
+        ensures { Reads (laws.at_end self.old) result self.new }
+    {
+        let left = self.left();
+        if left == 0 {
+            Ok(())
+        } else {
+            Err(Stop::Unexpected(left))
         }
     }
 
