@@ -150,9 +150,9 @@ unfolding names_colon colon_follows
 no_binder [] h = refl
 no_binder (s ∷ i) h = go (is k.Name s) h
   where
-  go : (b : Bool) → cond b (names_colon i) (is k.Colon s) ≡ false → (b && names_colon i) ≡ false
-  go true h = h
-  go false h = refl
+    go : (b : Bool) → cond b (names_colon i) (is k.Colon s) ≡ false → (b && names_colon i) ≡ false
+    go true h = h
+    go false h = refl
 
 inside_plain : (d : Derivation) (r : Mark) (rest : Input) → colon_follows (then d (tok k.ParenClose r ∷ rest)) ≡ false
 unfolding names_colon same_kind
@@ -399,8 +399,10 @@ module _ (text : List ℕ) where
     read zero (Arrow x xs w d) rest le s = absurd (omega arith)
     read (suc n) (Pi (Typing Round l x xs o t r) ys w d) rest le s =
         let more : Input = more_typed_then ys (tok k.Arrow w ∷ then d rest) in
-        rw (names_colon_yes xs o (then t (tok k.ParenClose r ∷ more)),
-            typed_after_read n Round l x xs o t r more (omega arith) (read n t (tok k.ParenClose r ∷ more) (omega arith) (close_stops Round r more)))
+        rw (
+          names_colon_yes xs o (then t (tok k.ParenClose r ∷ more)),
+          typed_after_read n Round l x xs o t r more (omega arith) (read n t (tok k.ParenClose r ∷ more) (omega arith) (close_stops Round r more)),
+        )
         (pi_from_read n (typed_tree text (Typing Round l x xs o t r)) ys w d rest (more_typed_read n n (typed_tree text (Typing Round l x xs o t r) ∷ []) ys (tok k.Arrow w ∷ then d rest) (omega arith) (omega arith) refl) (read n d rest (omega arith) s))
     read (suc n) (Pi (Typing Curly l x xs o t r) ys w d) rest le s =
         let more : Input = more_typed_then ys (tok k.Arrow w ∷ then d rest) in

@@ -67,15 +67,15 @@ over_colon [] (u ∷ us) [] st ag = absurd ag
 over_colon [] (u ∷ us) (v ∷ vs) st ag = rw (st, ← ag, st) refl
 over_colon (x ∷ xs) u v st ag = go xs
   where
-  go : (xs : List Mark) → names_colon (lined (tok k.Name) xs u) ≡ names_colon (lined (tok k.Name) xs v)
-  go [] = last u v st ag
-    where
-    last : (u v : Input) → next_is (is k.Name) u ≡ false → Agree u v → names_colon u ≡ names_colon v
-    last [] [] st ag = refl
-    last [] (v ∷ vs) st ag = absurd ag
-    last (u ∷ us) [] st ag = absurd ag
-    last (u ∷ us) (v ∷ vs) st ag = rw (st, ← ag, st) refl
-  go (y ∷ ys) = go ys
+    go : (xs : List Mark) → names_colon (lined (tok k.Name) xs u) ≡ names_colon (lined (tok k.Name) xs v)
+    go [] = last u v st ag
+      where
+        last : (u v : Input) → next_is (is k.Name) u ≡ false → Agree u v → names_colon u ≡ names_colon v
+        last [] [] st ag = refl
+        last [] (v ∷ vs) st ag = absurd ag
+        last (u ∷ us) [] st ag = absurd ag
+        last (u ∷ us) (v ∷ vs) st ag = rw (st, ← ag, st) refl
+    go (y ∷ ys) = go ys
 
 pub over_equals : LooksOver (is k.Name) (tok k.Name) equals_follows
 unfolding same_kind
@@ -84,11 +84,12 @@ over_equals [] [] (v ∷ vs) st ag = absurd ag
 over_equals [] (u ∷ us) [] st ag = absurd ag
 over_equals [] (u ∷ us) (v ∷ vs) st ag = go us vs
   where
-  none : (t : Sign) → is k.Name t ≡ false → (us : Input) → equals_follows (t ∷ us) ≡ false
-  none t e [] = refl
-  none t e (w ∷ ws) = rw e refl
-  go : (us vs : Input) → equals_follows (u ∷ us) ≡ equals_follows (v ∷ vs)
-  go us vs = none u st us ∙ sym (none v (ap (is k.Name) (sym ag) ∙ st) vs)
+    none : (t : Sign) → is k.Name t ≡ false → (us : Input) → equals_follows (t ∷ us) ≡ false
+    none t e [] = refl
+    none t e (w ∷ ws) = rw e refl
+
+    go : (us vs : Input) → equals_follows (u ∷ us) ≡ equals_follows (v ∷ vs)
+    go us vs = none u st us ∙ sym (none v (ap (is k.Name) (sym ag) ∙ st) vs)
 over_equals (x ∷ []) [] [] st ag = refl
 over_equals (x ∷ []) [] (v ∷ vs) st ag = absurd ag
 over_equals (x ∷ []) (u ∷ us) [] st ag = absurd ag
@@ -152,12 +153,12 @@ module _ (text : List ℕ) where
     typed_from_good c l x = weaken _ _ _ 0 n (λ y cs r.
         let o = r.second in let d = o.second in let w = d.second in
         let xs = all_names text (x ∷ []) r.first.more r.front r.first.each in record {
-        derivation = (xs.derivation, o.value, d.first.derivation, w.value);
-        gives = w.second.0 ∙ (λ i. typed_binder c (joined l.place w.value.place) (r.first.is i) (d.value)) ∙ (λ i. typed_binder c (joined l.place w.value.place) (x ∷ xs.gives i) (d.first.gives i));
-        spells = record { at = (both r.whole xs.spells (both o.whole (single k.Colon _ _ o.first) (both d.whole d.first.spells (both w.whole (single (close_of c) _ _ w.first) (nothing _ w.second.1))))).at };
-      })
-      (bind_good _ _ _ _ 0 n (names_good text (x ∷ []) n) (λ xs. bind_good _ _ _ _ 0 n (expect_good k.Colon 0 n) (λ _. bind_good _ _ _ _ 0 n goodi
-      (λ ty. bind_good _ _ _ _ 0 n (expect_good (close_of c) 0 n) (λ r. pure_good (typed_binder c (joined l.place r.place) xs ty) 0 n)))))
+          derivation = (xs.derivation, o.value, d.first.derivation, w.value);
+          gives = w.second.0 ∙ (λ i. typed_binder c (joined l.place w.value.place) (r.first.is i) (d.value)) ∙ (λ i. typed_binder c (joined l.place w.value.place) (x ∷ xs.gives i) (d.first.gives i));
+          spells = record { at = (both r.whole xs.spells (both o.whole (single k.Colon _ _ o.first) (both d.whole d.first.spells (both w.whole (single (close_of c) _ _ w.first) (nothing _ w.second.1))))).at };
+        })
+        (bind_good _ _ _ _ 0 n (names_good text (x ∷ []) n) (λ xs. bind_good _ _ _ _ 0 n (expect_good k.Colon 0 n) (λ _. bind_good _ _ _ _ 0 n goodi
+        (λ ty. bind_good _ _ _ _ 0 n (expect_good (close_of c) 0 n) (λ r. pure_good (typed_binder c (joined l.place r.place) xs ty) 0 n)))))
 
     abbrev TypedAfter : Bracket → Mark → Language Sign Binder
     TypedAfter c l = As (λ (p : Mark × List Mark × Mark × Derivation × Mark). λ rest. tok k.Name p.0 ∷ names_then p.1 (tok k.Colon p.2 ∷ then p.3 (tok (close_of c) p.4 ∷ rest)))
@@ -166,11 +167,11 @@ module _ (text : List ℕ) where
     typed_after_good : (c : Bracket) (l : Mark) → Good (TypedAfter c l) (λ j. typed_after text j (expr text j) c l) 0 n
     unfolding typed_after
     typed_after_good c l = weaken _ _ _ 0 n (λ y cs r. let f = r.first.derivation in let p = r.second.derivation in record {
-        derivation = (f, p.0, p.1, p.2, p.3);
-        gives = r.second.gives ∙ ap (λ (x : Name). typed_binder c (joined l.place p.3.place) (x ∷ map (name_of text) p.0) (tree text p.2)) r.first.gives;
-        spells = record { at = (both r.whole r.first.spells r.second.spells).at };
-      })
-      (bind_good _ _ _ _ 0 n (name_good text 0 n) (λ x. typed_from_good c l x))
+      derivation = (f, p.0, p.1, p.2, p.3);
+      gives = r.second.gives ∙ ap (λ (x : Name). typed_binder c (joined l.place p.3.place) (x ∷ map (name_of text) p.0) (tree text p.2)) r.first.gives;
+      spells = record { at = (both r.whole r.first.spells r.second.spells).at };
+    })
+        (bind_good _ _ _ _ 0 n (name_good text 0 n) (λ x. typed_from_good c l x))
 
     abbrev IsTyped : Language Sign Binder
     IsTyped = As typed_then (typed_tree text)
@@ -185,8 +186,8 @@ module _ (text : List ℕ) where
     typed_good : Good IsTyped (λ j. typed text j (expr text j)) 1 n
     unfolding typed
     typed_good = choose_good (is k.ParenOpen) _ _ _ 1 n
-      (weaken _ _ _ 1 n (of_after Round) (after_sign k.ParenOpen _ _ n (λ l. typed_after_good Round l)))
-      (weaken _ _ _ 1 n (of_after Curly) (after_sign k.BraceOpen _ _ n (λ l. typed_after_good Curly l)))
+        (weaken _ _ _ 1 n (of_after Round) (after_sign k.ParenOpen _ _ n (λ l. typed_after_good Round l)))
+        (weaken _ _ _ 1 n (of_after Curly) (after_sign k.BraceOpen _ _ n (λ l. typed_after_good Curly l)))
 
     typed_long : (d : Typed) → 0 < length (typed_then d [])
     typed_long (Typing c l x xs o d r) = omega arith
@@ -194,7 +195,7 @@ module _ (text : List ℕ) where
     more_typed_good : (found : List Binder) → Good (Behind (λ _. IsTyped) found) (λ j. more_typed text j (expr text j) found) 0 n
     unfolding more_typed one_typed
     more_typed_good found = many_good (λ _. IsTyped) (λ j _. one_typed text j (expr text j)) 0 n
-      (λ f. optional_good begins_typed (λ _. IsTyped) f (λ j. typed text j (expr text j)) 0 n (shorten _ _ n typed_good) (long_as _ _ typed_long)) (λ m f. refl) (omega arith) found
+        (λ f. optional_good begins_typed (λ _. IsTyped) f (λ j. typed text j (expr text j)) 0 n (shorten _ _ n typed_good) (long_as _ _ typed_long)) (λ m f. refl) (omega arith) found
 
     all_typed : (found xs : List Binder) (c : Input) → AllOf (λ _. IsTyped) found xs c → As more_typed_then (more_typed_tree text) xs c
     all_typed = all_of typed_then (typed_tree text) more_typed_then (more_typed_tree text) LastTyped NextTyped (λ rest. refl) refl (λ d ds rest. refl) (λ d ds. refl)
@@ -207,12 +208,12 @@ module _ (text : List ℕ) where
     unfolding pi_from
     pi_from_good x = weaken _ _ _ 0 n (λ y cs r.
         let w = r.second in let d = w.second in let xs = all_typed (x ∷ []) r.first.more r.front r.first.each in record {
-        derivation = (xs.derivation, w.value, d.first.derivation);
-        gives = d.second.0 ∙ (λ i. e.Pi (joined (binder_place x) (expr_place d.value)) (r.first.is i) d.value) ∙ (λ i. e.Pi (joined (binder_place x) (expr_place (d.first.gives i))) (x ∷ xs.gives i) (d.first.gives i));
-        spells = record { at = (both r.whole xs.spells (both w.whole (single k.Arrow _ _ w.first) (both d.whole d.first.spells (nothing _ d.second.1)))).at };
-      })
-      (bind_good _ _ _ _ 0 n (more_typed_good (x ∷ [])) (λ xs. bind_good _ _ _ _ 0 n (expect_good k.Arrow 0 n) (λ _. bind_good _ _ _ _ 0 n goodi
-      (λ body. pure_good (e.Pi (joined (binder_place x) (expr_place body)) xs body) 0 n))))
+          derivation = (xs.derivation, w.value, d.first.derivation);
+          gives = d.second.0 ∙ (λ i. e.Pi (joined (binder_place x) (expr_place d.value)) (r.first.is i) d.value) ∙ (λ i. e.Pi (joined (binder_place x) (expr_place (d.first.gives i))) (x ∷ xs.gives i) (d.first.gives i));
+          spells = record { at = (both r.whole xs.spells (both w.whole (single k.Arrow _ _ w.first) (both d.whole d.first.spells (nothing _ d.second.1)))).at };
+        })
+        (bind_good _ _ _ _ 0 n (more_typed_good (x ∷ [])) (λ xs. bind_good _ _ _ _ 0 n (expect_good k.Arrow 0 n) (λ _. bind_good _ _ _ _ 0 n goodi
+        (λ body. pure_good (e.Pi (joined (binder_place x) (expr_place body)) xs body) 0 n))))
 
     -- ---- atoms
 
@@ -222,11 +223,11 @@ module _ (text : List ℕ) where
     paren_after_good : Good ParenAfter (λ j. paren_after text j (expr text j)) 0 n
     unfolding paren_after
     paren_after_good = weaken _ _ _ 0 n (λ y cs r. let w = r.second in record {
-        derivation = (r.first.derivation, w.value);
-        gives = w.second.0 ∙ r.first.gives;
-        spells = record { at = (both r.whole r.first.spells (both w.whole (single k.ParenClose _ _ w.first) (nothing _ w.second.1))).at };
-      })
-      (bind_good _ _ _ _ 0 n goodi (λ x. bind_good _ _ _ _ 0 n (expect_good k.ParenClose 0 n) (λ _. pure_good x 0 n)))
+      derivation = (r.first.derivation, w.value);
+      gives = w.second.0 ∙ r.first.gives;
+      spells = record { at = (both r.whole r.first.spells (both w.whole (single k.ParenClose _ _ w.first) (nothing _ w.second.1))).at };
+    })
+        (bind_good _ _ _ _ 0 n goodi (λ x. bind_good _ _ _ _ 0 n (expect_good k.ParenClose 0 n) (λ _. pure_good x 0 n)))
 
     abbrev IsField : Language Sign FieldValue
     IsField = As (λ (p : Mark × Mark × Derivation). λ rest. tok k.Name p.0 ∷ tok k.Equals p.1 ∷ then p.2 rest) (λ p. record { name = name_of text p.0; value = tree text p.2 })
@@ -234,12 +235,12 @@ module _ (text : List ℕ) where
     field_good : Good IsField (λ j. field text j (expr text j)) 0 n
     unfolding field
     field_good = weaken _ _ _ 0 n (λ y cs r. let w = r.second in let d = w.second in record {
-        derivation = (r.first.derivation, w.value, d.first.derivation);
-        gives = d.second.0 ∙ (λ i. let v : FieldValue = record { name = r.first.gives i; value = d.first.gives i } in v);
-        spells = record { at = (both r.whole r.first.spells (both w.whole (single k.Equals _ _ w.first) (both d.whole d.first.spells (nothing _ d.second.1)))).at };
-      })
-      (bind_good _ _ _ _ 0 n (name_good text 0 n) (λ x. bind_good _ _ _ _ 0 n (expect_good k.Equals 0 n) (λ _. bind_good _ _ _ _ 0 n goodi
-      (λ v. pure_good (let f : FieldValue = record { name = x; value = v } in f) 0 n))))
+      derivation = (r.first.derivation, w.value, d.first.derivation);
+      gives = d.second.0 ∙ (λ i. let v : FieldValue = record { name = r.first.gives i; value = d.first.gives i } in v);
+      spells = record { at = (both r.whole r.first.spells (both w.whole (single k.Equals _ _ w.first) (both d.whole d.first.spells (nothing _ d.second.1)))).at };
+    })
+        (bind_good _ _ _ _ 0 n (name_good text 0 n) (λ x. bind_good _ _ _ _ 0 n (expect_good k.Equals 0 n) (λ _. bind_good _ _ _ _ 0 n goodi
+        (λ v. pure_good (let f : FieldValue = record { name = x; value = v } in f) 0 n))))
 
     abbrev NextIsField : Language Sign FieldValue
     NextIsField = As (λ (p : Mark × Mark × Mark × Derivation). λ rest. tok k.Semicolon p.0 ∷ tok k.Name p.1 ∷ tok k.Equals p.2 ∷ then p.3 rest) (λ p. record { name = name_of text p.1; value = tree text p.3 })
@@ -247,12 +248,12 @@ module _ (text : List ℕ) where
     one_field_good : (found : List FieldValue) → Good (Item (λ _. NextIsField) found) (λ j. one_field text j (expr text j)) 0 n
     unfolding one_field
     one_field_good found = optional_good (is k.Semicolon) (λ _. NextIsField) found _ 0 n
-      (weaken _ _ _ 0 n (λ y cs r. let p = r.second.derivation in record {
-        derivation = (r.value, p.0, p.1, p.2);
-        gives = r.second.gives;
-        spells = record { at = (both r.whole (single k.Semicolon _ _ r.first) r.second.spells).at };
-      }) (bind_good _ _ _ _ 0 n (expect_good k.Semicolon 0 n) (λ _. field_good)))
-      (long_as _ _ (λ d. omega arith))
+        (weaken _ _ _ 0 n (λ y cs r. let p = r.second.derivation in record {
+          derivation = (r.value, p.0, p.1, p.2);
+          gives = r.second.gives;
+          spells = record { at = (both r.whole (single k.Semicolon _ _ r.first) r.second.spells).at };
+        }) (bind_good _ _ _ _ 0 n (expect_good k.Semicolon 0 n) (λ _. field_good)))
+        (long_as _ _ (λ d. omega arith))
 
     more_fields_good : (found : List FieldValue) → Good (Behind (λ _. NextIsField) found) (λ j. more_fields text j (expr text j) found) 0 n
     unfolding more_fields one_field
@@ -260,7 +261,7 @@ module _ (text : List ℕ) where
 
     all_fields : (found xs : List FieldValue) (c : Input) → AllOf (λ _. NextIsField) found xs c → As more_fields_then (more_fields_tree text) xs c
     all_fields = all_of (λ (p : Mark × Mark × Mark × Derivation). λ rest. tok k.Semicolon p.0 ∷ tok k.Name p.1 ∷ tok k.Equals p.2 ∷ then p.3 rest) (λ p. record { name = name_of text p.1; value = tree text p.3 })
-      more_fields_then (more_fields_tree text) LastField (λ p. NextField p.0 p.1 p.2 p.3) (λ rest. refl) refl (λ d ds rest. refl) (λ d ds. refl)
+        more_fields_then (more_fields_tree text) LastField (λ p. NextField p.0 p.1 p.2 p.3) (λ rest. refl) refl (λ d ds rest. refl) (λ d ds. refl)
 
     abbrev IsFields : Language Sign (List FieldValue)
     IsFields = As fields_then (fields_tree text)
@@ -268,12 +269,12 @@ module _ (text : List ℕ) where
     fields_good : Good IsFields (λ j. fields text j (expr text j)) 0 n
     unfolding fields
     fields_good = choose_good (is k.Name) IsFields _ _ 0 n
-      (weaken _ _ _ 0 n (λ y cs r. let p = r.first.derivation in let xs = all_fields (r.value ∷ []) r.second.more r.back r.second.each in record {
-        derivation = Field p.0 p.1 p.2 xs.derivation;
-        gives = r.second.is ∙ (λ i. r.first.gives i ∷ xs.gives i);
-        spells = record { at = (both r.whole r.first.spells xs.spells).at };
-      }) (bind_good _ _ _ _ 0 n field_good (λ x. more_fields_good (x ∷ []))))
-      (weaken _ _ _ 0 n (λ y cs r. record { derivation = NoField; gives = r.0; spells = record { at = (nothing _ r.1).at } }) (pure_good [] 0 n))
+        (weaken _ _ _ 0 n (λ y cs r. let p = r.first.derivation in let xs = all_fields (r.value ∷ []) r.second.more r.back r.second.each in record {
+          derivation = Field p.0 p.1 p.2 xs.derivation;
+          gives = r.second.is ∙ (λ i. r.first.gives i ∷ xs.gives i);
+          spells = record { at = (both r.whole r.first.spells xs.spells).at };
+        }) (bind_good _ _ _ _ 0 n field_good (λ x. more_fields_good (x ∷ []))))
+        (weaken _ _ _ 0 n (λ y cs r. record { derivation = NoField; gives = r.0; spells = record { at = (nothing _ r.1).at } }) (pure_good [] 0 n))
 
     abbrev IsAtom : Language Sign Expr
     IsAtom = As atom_then (atom_tree text)
@@ -281,21 +282,21 @@ module _ (text : List ℕ) where
     record_good : Good IsAtom (λ j. record_atom text j (expr text j)) 1 n
     unfolding record_atom
     record_good = weaken _ _ _ 1 n (λ y cs r. let l = r.second in let fs = l.second in let w = fs.second in record {
-        derivation = Record r.value l.value fs.first.derivation w.value;
-        gives = w.second.0 ∙ (λ i. e.Record (joined r.value.place w.value.place) (fs.first.gives i));
-        spells = record { at = (both r.whole (single k.Record _ _ r.first) (both l.whole (single k.BraceOpen _ _ l.first) (both fs.whole fs.first.spells (both w.whole (single k.BraceClose _ _ w.first) (nothing _ w.second.1))))).at };
-      })
-      (after_sign k.Record _ _ n (λ w. bind_good _ _ _ _ 0 n (expect_good k.BraceOpen 0 n) (λ _. bind_good _ _ _ _ 0 n fields_good (λ fs. bind_good _ _ _ _ 0 n (expect_good k.BraceClose 0 n)
-      (λ r. pure_good (e.Record (joined w.place r.place) fs) 0 n)))))
+      derivation = Record r.value l.value fs.first.derivation w.value;
+      gives = w.second.0 ∙ (λ i. e.Record (joined r.value.place w.value.place) (fs.first.gives i));
+      spells = record { at = (both r.whole (single k.Record _ _ r.first) (both l.whole (single k.BraceOpen _ _ l.first) (both fs.whole fs.first.spells (both w.whole (single k.BraceClose _ _ w.first) (nothing _ w.second.1))))).at };
+    })
+        (after_sign k.Record _ _ n (λ w. bind_good _ _ _ _ 0 n (expect_good k.BraceOpen 0 n) (λ _. bind_good _ _ _ _ 0 n fields_good (λ fs. bind_good _ _ _ _ 0 n (expect_good k.BraceClose 0 n)
+        (λ r. pure_good (e.Record (joined w.place r.place) fs) 0 n)))))
 
     one_atom : (kind : Kind) (d : Mark → Atom) (v : Mark → Expr) → ((m : Mark) → v m ≡ atom_tree text (d m)) → ((m : Mark) (rest : Input) → atom_then (d m) rest ≡ tok kind m ∷ rest)
         → Good IsAtom (λ j. expect kind >>= (λ m. pure (v m))) 1 n
     one_atom kind d v is_tree is_then = weaken _ _ _ 1 n (λ y cs r. record {
-        derivation = d r.value;
-        gives = r.second.0 ∙ is_tree r.value;
-        spells = record { at = λ rest. is_then r.value rest ∙ (both r.whole (single kind _ _ r.first) (nothing _ r.second.1)).at rest };
-      })
-      (bind_good (Is kind) (λ m. Gives (v m)) (λ j. expect kind) (λ m j. pure (v m)) 1 n (expect_good kind 1 n) (λ m. pure_good (v m) 1 n))
+      derivation = d r.value;
+      gives = r.second.0 ∙ is_tree r.value;
+      spells = record { at = λ rest. is_then r.value rest ∙ (both r.whole (single kind _ _ r.first) (nothing _ r.second.1)).at rest };
+    })
+        (bind_good (Is kind) (λ m. Gives (v m)) (λ j. expect kind) (λ m j. pure (v m)) 1 n (expect_good kind 1 n) (λ m. pure_good (v m) 1 n))
 
     simple_good : Good IsAtom (λ j. simple_atom text j (expr text j)) 1 n
     unfolding simple_atom
@@ -320,27 +321,29 @@ module _ (text : List ℕ) where
 
     named_arg_good : (l : Mark) → Good (BracedArg l) (λ j. named_arg text j (expr text j) l) 0 n
     unfolding named_arg
-    named_arg_good l = weaken _ _ _ 0 n (λ y cs r. let o = r.second in let d = o.second in let w = d.second in
-        (Equated l r.first.derivation o.value d.first.derivation w.value,
-         w.second.0 ∙ (λ i. a.Named (joined l.place w.value.place) (r.first.gives i) (d.first.gives i)),
-         record { at = (in_front (tok k.BraceOpen l) (both r.whole r.first.spells (both o.whole (single k.Equals _ _ o.first) (both d.whole d.first.spells (both w.whole (single k.BraceClose _ _ w.first) (nothing _ w.second.1)))))).at }))
-      (bind_good _ _ _ _ 0 n (name_good text 0 n) (λ x. bind_good _ _ _ _ 0 n (expect_good k.Equals 0 n) (λ _. bind_good _ _ _ _ 0 n goodi (λ v. bind_good _ _ _ _ 0 n (expect_good k.BraceClose 0 n)
-      (λ r. pure_good (a.Named (joined l.place r.place) x v) 0 n)))))
+    named_arg_good l = weaken _ _ _ 0 n (λ y cs r. let o = r.second in let d = o.second in let w = d.second in (
+      Equated l r.first.derivation o.value d.first.derivation w.value,
+      w.second.0 ∙ (λ i. a.Named (joined l.place w.value.place) (r.first.gives i) (d.first.gives i)),
+      record { at = (in_front (tok k.BraceOpen l) (both r.whole r.first.spells (both o.whole (single k.Equals _ _ o.first) (both d.whole d.first.spells (both w.whole (single k.BraceClose _ _ w.first) (nothing _ w.second.1)))))).at },
+    ))
+        (bind_good _ _ _ _ 0 n (name_good text 0 n) (λ x. bind_good _ _ _ _ 0 n (expect_good k.Equals 0 n) (λ _. bind_good _ _ _ _ 0 n goodi (λ v. bind_good _ _ _ _ 0 n (expect_good k.BraceClose 0 n)
+        (λ r. pure_good (a.Named (joined l.place r.place) x v) 0 n)))))
 
     implicit_arg_good : (l : Mark) → Good (BracedArg l) (λ j. implicit_arg text j (expr text j) l) 0 n
     unfolding implicit_arg
-    implicit_arg_good l = weaken _ _ _ 0 n (λ y cs r. let w = r.second in
-        (Braced l r.first.derivation w.value,
-         w.second.0 ∙ ap (a.Implicit (joined l.place w.value.place)) r.first.gives,
-         record { at = (in_front (tok k.BraceOpen l) (both r.whole r.first.spells (both w.whole (single k.BraceClose _ _ w.first) (nothing _ w.second.1)))).at }))
-      (bind_good _ _ _ _ 0 n goodi (λ v. bind_good _ _ _ _ 0 n (expect_good k.BraceClose 0 n) (λ r. pure_good (a.Implicit (joined l.place r.place) v) 0 n)))
+    implicit_arg_good l = weaken _ _ _ 0 n (λ y cs r. let w = r.second in (
+      Braced l r.first.derivation w.value,
+      w.second.0 ∙ ap (a.Implicit (joined l.place w.value.place)) r.first.gives,
+      record { at = (in_front (tok k.BraceOpen l) (both r.whole r.first.spells (both w.whole (single k.BraceClose _ _ w.first) (nothing _ w.second.1)))).at },
+    ))
+        (bind_good _ _ _ _ 0 n goodi (λ v. bind_good _ _ _ _ 0 n (expect_good k.BraceClose 0 n) (λ r. pure_good (a.Implicit (joined l.place r.place) v) 0 n)))
 
     project_good : (o : Mark) → Good (λ y cs. (d : Argument) × (y ≡ argument_tree text d) × Spells (argument_then d) (tok k.Dot o ∷ cs)) (λ j. project_arg text j (expr text j) o) 0 n
     unfolding project_arg
     project_good o = choose_good (is k.Name) _ _ _ 0 n
-      (weaken _ _ _ 0 n (λ y cs r. (Projected o r.value, r.second.0, record { at = (in_front (tok k.Dot o) (both r.whole (single k.Name _ _ r.first) (nothing _ r.second.1))).at }))
+        (weaken _ _ _ 0 n (λ y cs r. (Projected o r.value, r.second.0, record { at = (in_front (tok k.Dot o) (both r.whole (single k.Name _ _ r.first) (nothing _ r.second.1))).at }))
         (bind_good _ _ _ _ 0 n (expect_good k.Name 0 n) (λ x. pure_good (a.Project (joined o.place x.place) (name_of text x)) 0 n)))
-      (weaken _ _ _ 0 n (λ y cs r. (ProjectedQualified o r.value, r.second.0, record { at = (in_front (tok k.Dot o) (both r.whole (single k.Qualified _ _ r.first) (nothing _ r.second.1))).at }))
+        (weaken _ _ _ 0 n (λ y cs r. (ProjectedQualified o r.value, r.second.0, record { at = (in_front (tok k.Dot o) (both r.whole (single k.Qualified _ _ r.first) (nothing _ r.second.1))).at }))
         (bind_good _ _ _ _ 0 n (expect_good k.Qualified 0 n) (λ x. pure_good (a.ProjectQualified (joined o.place x.place) (name_of text x)) 0 n)))
 
     module _ (eatsi : left_eats (expr text) 0 n) where
@@ -375,16 +378,16 @@ module _ (text : List ℕ) where
           choose_good (is k.BraceOpen) IsArgument _ _ 1 n (weaken _ _ _ 1 n (of_parts k.BraceOpen) (after_sign k.BraceOpen _ _ n braced_arg_good))
           (choose_good (is k.Dot) IsArgument _ _ 1 n (weaken _ _ _ 1 n (of_parts k.Dot) (after_sign k.Dot _ _ n project_good))
           (choose_good (is k.ParenOpen) IsArgument _ _ 1 n
-            (weaken _ _ _ 1 n (λ y cs r. let p = r.second.first.derivation in record {
-              derivation = Plain (Paren r.value p.0 p.1);
-              gives = r.second.second.0 ∙ ap a.Plain r.second.first.gives;
-              spells = record { at = (both r.whole (single k.ParenOpen _ _ r.first) (both r.second.whole r.second.first.spells (nothing _ r.second.second.1))).at };
-            }) (after_sign k.ParenOpen _ _ n (λ _. bind_good _ _ _ _ 0 n paren_after_good (λ x. pure_good (a.Plain x) 0 n))))
+          (weaken _ _ _ 1 n (λ y cs r. let p = r.second.first.derivation in record {
+            derivation = Plain (Paren r.value p.0 p.1);
+            gives = r.second.second.0 ∙ ap a.Plain r.second.first.gives;
+            spells = record { at = (both r.whole (single k.ParenOpen _ _ r.first) (both r.second.whole r.second.first.spells (nothing _ r.second.second.1))).at };
+          }) (after_sign k.ParenOpen _ _ n (λ _. bind_good _ _ _ _ 0 n paren_after_good (λ x. pure_good (a.Plain x) 0 n))))
           (weaken _ _ _ 1 n (λ y cs r. record {
-              derivation = Plain r.first.derivation;
-              gives = r.second.0 ∙ ap a.Plain r.first.gives;
-              spells = record { at = (both r.whole r.first.spells (nothing _ r.second.1)).at };
-            }) (bind_good _ _ _ _ 1 n simple_good (λ x. pure_good (a.Plain x) 1 n)))))
+            derivation = Plain r.first.derivation;
+            gives = r.second.0 ∙ ap a.Plain r.first.gives;
+            spells = record { at = (both r.whole r.first.spells (nothing _ r.second.1)).at };
+          }) (bind_good _ _ _ _ 1 n simple_good (λ x. pure_good (a.Plain x) 1 n)))))
 
       atom_long : (d : Atom) → 0 < length (atom_then d [])
       atom_long (Named x) = omega arith
@@ -422,10 +425,10 @@ module _ (text : List ℕ) where
       unfolding arrow_tail
       tail_good left = choose_good (is k.Arrow) (IsTail left) _ _ 1 n
           (weaken _ _ _ 1 n (λ y cs r. let d = r.second in record {
-              derivation = ArrowTail r.value d.first.derivation;
-              gives = d.second.0 ∙ (λ i. e.Arrow (joined (expr_place left) (expr_place (d.first.gives i))) left (d.first.gives i));
-              spells = record { at = (both r.whole (single k.Arrow _ _ r.first) (both d.whole d.first.spells (nothing _ d.second.1))).at };
-            }) (after_sign k.Arrow _ _ n (λ _. bind_good _ _ _ _ 0 n goodi (λ right. pure_good (e.Arrow (joined (expr_place left) (expr_place right)) left right) 0 n))))
+            derivation = ArrowTail r.value d.first.derivation;
+            gives = d.second.0 ∙ (λ i. e.Arrow (joined (expr_place left) (expr_place (d.first.gives i))) left (d.first.gives i));
+            spells = record { at = (both r.whole (single k.Arrow _ _ r.first) (both d.whole d.first.spells (nothing _ d.second.1))).at };
+          }) (after_sign k.Arrow _ _ n (λ _. bind_good _ _ _ _ 0 n goodi (λ right. pure_good (e.Arrow (joined (expr_place left) (expr_place right)) left right) 0 n))))
           (weaken _ _ _ 1 n (λ y cs r. record { derivation = NoTail; gives = r.0; spells = record { at = (nothing _ r.1).at } }) (pure_good left 1 n))
 
       abbrev AppFrom : Expr → Language Sign Expr
@@ -434,11 +437,11 @@ module _ (text : List ℕ) where
       app_from_good : (head : Expr) → Good (AppFrom head) (λ j. app_from text j (expr text j) head) 1 n
       unfolding app_from
       app_from_good head = weaken _ _ _ 1 n (λ y cs r. let xs = all_args [] r.first.more r.front r.first.each in record {
-          derivation = (xs.derivation, r.second.derivation);
-          gives = r.second.gives ∙ ap (λ (ys : List Arg). tail_tree (applied head ys) r.second.derivation) (r.first.is ∙ xs.gives);
-          spells = record { at = (both r.whole xs.spells r.second.spells).at };
-        })
-        (bind_good _ _ _ _ 1 n (args_good []) (λ xs. tail_good (applied head xs)))
+        derivation = (xs.derivation, r.second.derivation);
+        gives = r.second.gives ∙ ap (λ (ys : List Arg). tail_tree (applied head ys) r.second.derivation) (r.first.is ∙ xs.gives);
+        spells = record { at = (both r.whole xs.spells r.second.spells).at };
+      })
+          (bind_good _ _ _ _ 1 n (args_good []) (λ xs. tail_good (applied head xs)))
 
       args_eat : (m : ℕ) (found : List Arg) (xs : List Mark) (u : Input) → length (lined (tok k.Name) xs u) ≤ m → length (lined (tok k.Name) xs u) < 1 + n → next_is (is k.Name) u ≡ false → UpTo (length u) (many_from (λ _. one_arg text n (expr text n)) m found (lined (tok k.Name) xs u))
       unfolding many_from one_arg arg simple_atom begins_atom expect one same_kind
@@ -457,18 +460,20 @@ module _ (text : List ℕ) where
       AfterParen l y cs = (d : Derivation) × (y ≡ tree text d) × Spells (then d) (tok k.ParenOpen l ∷ cs)
 
       binder_side : (l : Mark) → Good (AfterParen l) (λ j. typed_after text j (expr text j) Round l >>= pi_from text j (expr text j)) 0 n
-      binder_side l = weaken _ _ _ 0 n (λ y cs r. let p = r.first.derivation in let t = Typing Round l p.0 p.1 p.2 p.3 p.4 in let w = r.second.derivation in
-          (Pi t w.0 w.1 w.2,
-           r.second.gives ∙ ap (λ (x : Binder). e.Pi (joined (binder_place x) (expr_place (tree text w.2))) (x ∷ more_typed_tree text w.0) (tree text w.2)) r.first.gives,
-           record { at = (in_front (tok k.ParenOpen l) (both r.whole r.first.spells r.second.spells)).at }))
-        (bind_good _ _ _ _ 0 n (typed_after_good Round l) pi_from_good)
+      binder_side l = weaken _ _ _ 0 n (λ y cs r. let p = r.first.derivation in let t = Typing Round l p.0 p.1 p.2 p.3 p.4 in let w = r.second.derivation in (
+        Pi t w.0 w.1 w.2,
+        r.second.gives ∙ ap (λ (x : Binder). e.Pi (joined (binder_place x) (expr_place (tree text w.2))) (x ∷ more_typed_tree text w.0) (tree text w.2)) r.first.gives,
+        record { at = (in_front (tok k.ParenOpen l) (both r.whole r.first.spells r.second.spells)).at },
+      ))
+          (bind_good _ _ _ _ 0 n (typed_after_good Round l) pi_from_good)
 
       atom_side : (l : Mark) → Good (AfterParen l) (λ j. paren_after text j (expr text j) >>= app_from text j (expr text j)) 0 n
-      atom_side l = weaken _ _ _ 0 n (λ y cs r. let p = r.first.derivation in let w = r.second.derivation in let x : Atom = Paren l p.0 p.1 in
-          (finished x w.0 w.1,
-           r.second.gives ∙ ap (λ (h : Expr). tail_tree (applied h (arguments_tree text w.0)) w.1) r.first.gives ∙ sym (finished_tree x w.0 w.1),
-           record { at = λ rest. finished_then x w.0 w.1 rest ∙ (in_front (tok k.ParenOpen l) (both r.whole r.first.spells r.second.spells)).at rest }))
-        (bind_good _ _ _ _ 0 n paren_after_good (λ x. shorten _ _ n (app_from_good x)))
+      atom_side l = weaken _ _ _ 0 n (λ y cs r. let p = r.first.derivation in let w = r.second.derivation in let x : Atom = Paren l p.0 p.1 in (
+        finished x w.0 w.1,
+        r.second.gives ∙ ap (λ (h : Expr). tail_tree (applied h (arguments_tree text w.0)) w.1) r.first.gives ∙ sym (finished_tree x w.0 w.1),
+        record { at = λ rest. finished_then x w.0 w.1 rest ∙ (in_front (tok k.ParenOpen l) (both r.whole r.first.spells r.second.spells)).at rest },
+      ))
+          (bind_good _ _ _ _ 0 n paren_after_good (λ x. shorten _ _ n (app_from_good x)))
 
       names_up : (m : ℕ) (found : List Name) (xs : List Mark) (u : Input) → length xs ≤ m → next_is (is k.Name) u ≡ false → UpTo (length u) (many_from (λ _. one_name text) m found (lined (tok k.Name) xs u))
       names_up m found xs u le st = let r = names_eat text m found xs u le st in rw r.1 (omega arith)
@@ -478,7 +483,7 @@ module _ (text : List ℕ) where
       typed_after_eats c l [] u st lt = good_up _ _ 0 n (typed_after_good c l) (length u) u lt (omega arith)
       typed_after_eats c l (x ∷ xs) u st lt = bind_up (length u) (many_from (λ _. one_name text) n (name_of text x ∷ []) (lined (tok k.Name) xs u)) _ (names_up n (name_of text x ∷ []) xs u (omega (arith, lined_count xs u)) st)
           (λ ys ts le. good_up _ _ 0 n (bind_good _ _ _ _ 0 n (expect_good k.Colon 0 n) (λ _. bind_good _ _ _ _ 0 n goodi (λ ty. bind_good _ _ _ _ 0 n (expect_good (close_of c) 0 n) (λ r. pure_good (typed_binder c (joined l.place r.place) ys ty) 0 n))))
-            (length u) ts (omega (arith, lined_longer (tok k.Name) xs u)) le)
+          (length u) ts (omega (arith, lined_longer (tok k.Name) xs u)) le)
 
       binder_side_up : (l : Mark) (xs : List Mark) (u : Input) → next_is (is k.Name) u ≡ false → length (lined (tok k.Name) xs u) < 0 + n → colon_follows (lined (tok k.Name) xs u) ≡ true → UpTo (length u) ((typed_after text n (expr text n) Round l >>= pi_from text n (expr text n)) (lined (tok k.Name) xs u))
       binder_side_up l xs u st lt is_so = bind_up (length u) (typed_after text n (expr text n) Round l (lined (tok k.Name) xs u)) _ (typed_after_eats Round l xs u st lt)
@@ -488,7 +493,7 @@ module _ (text : List ℕ) where
       unfolding paren_after
       atom_side_up l xs u st lt not_so = bind_up (length u) (paren_after text n (expr text n) (lined (tok k.Name) xs u)) _
           (bind_up (length u) (expr text n (lined (tok k.Name) xs u)) _ (eatsi xs u st lt)
-            (λ x ts le. good_up _ _ 0 n (bind_good _ _ _ _ 0 n (expect_good k.ParenClose 0 n) (λ _. pure_good x 0 n)) (length u) ts (omega (arith, lined_longer (tok k.Name) xs u)) le))
+          (λ x ts le. good_up _ _ 0 n (bind_good _ _ _ _ 0 n (expect_good k.ParenClose 0 n) (λ _. pure_good x 0 n)) (length u) ts (omega (arith, lined_longer (tok k.Name) xs u)) le))
           (λ x ts le. good_up _ _ 1 n (app_from_good x) (length u) ts (omega (arith, lined_longer (tok k.Name) xs u)) le)
 
       after_paren_good : (l : Mark) → Good (AfterParen l) (λ j. after_paren text j (expr text j) l) 0 n
@@ -513,29 +518,29 @@ module _ (text : List ℕ) where
       of_braced : (y : Binder) (cs : Input) → Seq (Is k.BraceOpen) (λ l. Seq (IsName text) (λ x. BracedFrom l x)) y cs → IsBound y cs
       of_braced y cs r = go r.second.second
         where
-        go : BracedFrom r.value r.second.value y r.second.back → IsBound y cs
-        go (inl w) = record {
-          derivation = BoundBraced r.value r.second.first.derivation w.0;
-          gives = w.1 ∙ ap (b.Braced (joined r.value.place w.0.place)) r.second.first.gives;
-          spells = record { at = (both r.whole (single k.BraceOpen _ _ r.first) (both r.second.whole r.second.first.spells w.2)).at };
-        }
-        go (inr w) = let p = w.derivation in record {
-          derivation = BoundTyped (Typing Curly r.value r.second.first.derivation p.0 p.1 p.2 p.3);
-          gives = w.gives ∙ ap (λ (x : Name). typed_binder Curly (joined r.value.place p.3.place) (x ∷ map (name_of text) p.0) (tree text p.2)) r.second.first.gives;
-          spells = record { at = (both r.whole (single k.BraceOpen _ _ r.first) (both r.second.whole r.second.first.spells w.spells)).at };
-        }
+          go : BracedFrom r.value r.second.value y r.second.back → IsBound y cs
+          go (inl w) = record {
+            derivation = BoundBraced r.value r.second.first.derivation w.0;
+            gives = w.1 ∙ ap (b.Braced (joined r.value.place w.0.place)) r.second.first.gives;
+            spells = record { at = (both r.whole (single k.BraceOpen _ _ r.first) (both r.second.whole r.second.first.spells w.2)).at };
+          }
+          go (inr w) = let p = w.derivation in record {
+            derivation = BoundTyped (Typing Curly r.value r.second.first.derivation p.0 p.1 p.2 p.3);
+            gives = w.gives ∙ ap (λ (x : Name). typed_binder Curly (joined r.value.place p.3.place) (x ∷ map (name_of text) p.0) (tree text p.2)) r.second.first.gives;
+            spells = record { at = (both r.whole (single k.BraceOpen _ _ r.first) (both r.second.whole r.second.first.spells w.spells)).at };
+          }
 
       bound_good : Good IsBound (λ j. bound text j (expr text j)) 1 n
       unfolding bound
       bound_good =
           choose_good (is k.BraceOpen) IsBound _ _ 1 n (weaken _ _ _ 1 n of_braced (after_sign k.BraceOpen _ _ n (λ l. bind_good _ _ _ _ 0 n (name_good text 0 n) (λ x. braced_from_good l x))))
           (choose_good (is k.ParenOpen) IsBound _ _ 1 n
-            (weaken _ _ _ 1 n (λ y cs r. let t = of_after Round y cs r in record { derivation = BoundTyped t.derivation; gives = t.gives; spells = record { at = t.spells.at } }) (after_sign k.ParenOpen _ _ n (λ l. typed_after_good Round l)))
+          (weaken _ _ _ 1 n (λ y cs r. let t = of_after Round y cs r in record { derivation = BoundTyped t.derivation; gives = t.gives; spells = record { at = t.spells.at } }) (after_sign k.ParenOpen _ _ n (λ l. typed_after_good Round l)))
           (weaken _ _ _ 1 n (λ y cs r. record {
-              derivation = BoundName r.first.derivation;
-              gives = r.second.0 ∙ ap b.Name r.first.gives;
-              spells = record { at = (both r.whole r.first.spells (nothing _ r.second.1)).at };
-            }) (bind_good _ _ _ _ 1 n (name_good text 1 n) (λ x. pure_good (b.Name x) 1 n))))
+            derivation = BoundName r.first.derivation;
+            gives = r.second.0 ∙ ap b.Name r.first.gives;
+            spells = record { at = (both r.whole r.first.spells (nothing _ r.second.1)).at };
+          }) (bind_good _ _ _ _ 1 n (name_good text 1 n) (λ x. pure_good (b.Name x) 1 n))))
 
       abbrev IsLambdaBound : Language Sign Binder
       IsLambdaBound = As lambda_bound_then (lambda_bound_tree text)
@@ -544,9 +549,9 @@ module _ (text : List ℕ) where
       unfolding lambda_bound
       lambda_bound_good =
           choose_good (is k.Underscore) IsLambdaBound _ _ 1 n
-            (weaken _ _ _ 1 n (λ y cs r. record { derivation = BoundBlank r.value; gives = r.second.0; spells = record { at = (both r.whole (single k.Underscore _ _ r.first) (nothing _ r.second.1)).at } })
-              (bind_good _ _ _ _ 1 n (expect_good k.Underscore 1 n) (λ x. pure_good (b.Underscore x.place) 1 n)))
-            (weaken _ _ _ 1 n (λ y cs r. record { derivation = BoundAs r.derivation; gives = r.gives; spells = record { at = r.spells.at } }) bound_good)
+          (weaken _ _ _ 1 n (λ y cs r. record { derivation = BoundBlank r.value; gives = r.second.0; spells = record { at = (both r.whole (single k.Underscore _ _ r.first) (nothing _ r.second.1)).at } })
+          (bind_good _ _ _ _ 1 n (expect_good k.Underscore 1 n) (λ x. pure_good (b.Underscore x.place) 1 n)))
+          (weaken _ _ _ 1 n (λ y cs r. record { derivation = BoundAs r.derivation; gives = r.gives; spells = record { at = r.spells.at } }) bound_good)
 
       bound_long : (d : Bound) → 0 < length (bound_then d [])
       bound_long (BoundName x) = omega arith
@@ -577,23 +582,23 @@ module _ (text : List ℕ) where
       unfolding quantified binder
       forall_good = weaken _ _ _ 1 n (λ y cs r. let x = r.second in let xs = x.second in let w = xs.second in let d = w.second in
           let more = all_bound (x.value ∷ []) xs.first.more xs.front xs.first.each in record {
-          derivation = Forall r.value x.first.derivation more.derivation w.value d.first.derivation;
-          gives = d.second.0 ∙ (λ i. e.Forall (joined r.value.place (expr_place d.value)) (xs.first.is i) d.value) ∙ (λ i. e.Forall (joined r.value.place (expr_place (d.first.gives i))) (x.first.gives i ∷ more.gives i) (d.first.gives i));
-          spells = record { at = (both r.whole (single k.All _ _ r.first) (both x.whole x.first.spells (both xs.whole more.spells (both w.whole (single k.Arrow _ _ w.first) (both d.whole d.first.spells (nothing _ d.second.1)))))).at };
-        })
-        (after_sign k.All _ _ n (λ m. bind_good _ _ _ _ 0 n (shorten _ _ n bound_good) (λ x. bind_good _ _ _ _ 0 n (all_good (x ∷ [])) (λ xs. bind_good _ _ _ _ 0 n (expect_good k.Arrow 0 n)
-        (λ _. bind_good _ _ _ _ 0 n goodi (λ body. pure_good (e.Forall (joined m.place (expr_place body)) xs body) 0 n))))))
+            derivation = Forall r.value x.first.derivation more.derivation w.value d.first.derivation;
+            gives = d.second.0 ∙ (λ i. e.Forall (joined r.value.place (expr_place d.value)) (xs.first.is i) d.value) ∙ (λ i. e.Forall (joined r.value.place (expr_place (d.first.gives i))) (x.first.gives i ∷ more.gives i) (d.first.gives i));
+            spells = record { at = (both r.whole (single k.All _ _ r.first) (both x.whole x.first.spells (both xs.whole more.spells (both w.whole (single k.Arrow _ _ w.first) (both d.whole d.first.spells (nothing _ d.second.1)))))).at };
+          })
+          (after_sign k.All _ _ n (λ m. bind_good _ _ _ _ 0 n (shorten _ _ n bound_good) (λ x. bind_good _ _ _ _ 0 n (all_good (x ∷ [])) (λ xs. bind_good _ _ _ _ 0 n (expect_good k.Arrow 0 n)
+          (λ _. bind_good _ _ _ _ 0 n goodi (λ body. pure_good (e.Forall (joined m.place (expr_place body)) xs body) 0 n))))))
 
       lambdas_good : Good Derives (λ j. quantified text j (expr text j) q.Lambda) 1 n
       unfolding quantified binder
       lambdas_good = weaken _ _ _ 1 n (λ y cs r. let x = r.second in let xs = x.second in let w = xs.second in let d = w.second in
           let more = all_lambda_bound (x.value ∷ []) xs.first.more xs.front xs.first.each in record {
-          derivation = Lambda r.value x.first.derivation more.derivation w.value d.first.derivation;
-          gives = d.second.0 ∙ (λ i. e.Lambda (joined r.value.place (expr_place d.value)) (xs.first.is i) d.value) ∙ (λ i. e.Lambda (joined r.value.place (expr_place (d.first.gives i))) (x.first.gives i ∷ more.gives i) (d.first.gives i));
-          spells = record { at = (both r.whole (single k.Lambda _ _ r.first) (both x.whole x.first.spells (both xs.whole more.spells (both w.whole (single k.Arrow _ _ w.first) (both d.whole d.first.spells (nothing _ d.second.1)))))).at };
-        })
-        (after_sign k.Lambda _ _ n (λ m. bind_good _ _ _ _ 0 n (shorten _ _ n lambda_bound_good) (λ x. bind_good _ _ _ _ 0 n (lambda_good (x ∷ [])) (λ xs. bind_good _ _ _ _ 0 n (expect_good k.Arrow 0 n)
-        (λ _. bind_good _ _ _ _ 0 n goodi (λ body. pure_good (e.Lambda (joined m.place (expr_place body)) xs body) 0 n))))))
+            derivation = Lambda r.value x.first.derivation more.derivation w.value d.first.derivation;
+            gives = d.second.0 ∙ (λ i. e.Lambda (joined r.value.place (expr_place d.value)) (xs.first.is i) d.value) ∙ (λ i. e.Lambda (joined r.value.place (expr_place (d.first.gives i))) (x.first.gives i ∷ more.gives i) (d.first.gives i));
+            spells = record { at = (both r.whole (single k.Lambda _ _ r.first) (both x.whole x.first.spells (both xs.whole more.spells (both w.whole (single k.Arrow _ _ w.first) (both d.whole d.first.spells (nothing _ d.second.1)))))).at };
+          })
+          (after_sign k.Lambda _ _ n (λ m. bind_good _ _ _ _ 0 n (shorten _ _ n lambda_bound_good) (λ x. bind_good _ _ _ _ 0 n (lambda_good (x ∷ [])) (λ xs. bind_good _ _ _ _ 0 n (expect_good k.Arrow 0 n)
+          (λ _. bind_good _ _ _ _ 0 n goodi (λ body. pure_good (e.Lambda (joined m.place (expr_place body)) xs body) 0 n))))))
 
       -- ---- an expression
 
@@ -649,17 +654,17 @@ module _ (text : List ℕ) where
   unfolding expr
   next n g = record { at = λ ts lt. go ts (level text n (expr text n) ts) (g.at ts (omega arith)); word = g.word }
     where
-    go : (ts : Input) (r : Outcome Sign Expr) → GoodFor (Derives text) (λ j. level text j (expr text j)) 1 ts r → GoodFor (Derives text) (expr text) 0 ts r
-    go ts (Ok x) t = record { taken = t.taken; split = t.split; reads = t.reads; local = λ m new lt ok. again m new lt ok }
-      where
-      again : (m : ℕ) (new : Input) → length (t.taken ++ new) < 0 + m → Agree x.1 new → expr text m (t.taken ++ new) ≡ Ok (x.0, new)
-      again zero new lt ok = absurd (omega arith)
-      again (suc m) new lt ok = t.local m new (omega arith) ok
-    go ts (Err k) t = record { taken = t.taken; rest = t.rest; split = t.split; left = t.left; viable = t.viable; local = λ m new lt ok. again m new lt ok }
-      where
-      again : (m : ℕ) (new : Input) → length (t.taken ++ new) < 0 + m → Agree t.rest new → expr text m (t.taken ++ new) ≡ Err (length new)
-      again zero new lt ok = absurd (omega arith)
-      again (suc m) new lt ok = t.local m new (omega arith) ok
+      go : (ts : Input) (r : Outcome Sign Expr) → GoodFor (Derives text) (λ j. level text j (expr text j)) 1 ts r → GoodFor (Derives text) (expr text) 0 ts r
+      go ts (Ok x) t = record { taken = t.taken; split = t.split; reads = t.reads; local = λ m new lt ok. again m new lt ok }
+        where
+          again : (m : ℕ) (new : Input) → length (t.taken ++ new) < 0 + m → Agree x.1 new → expr text m (t.taken ++ new) ≡ Ok (x.0, new)
+          again zero new lt ok = absurd (omega arith)
+          again (suc m) new lt ok = t.local m new (omega arith) ok
+      go ts (Err k) t = record { taken = t.taken; rest = t.rest; split = t.split; left = t.left; viable = t.viable; local = λ m new lt ok. again m new lt ok }
+        where
+          again : (m : ℕ) (new : Input) → length (t.taken ++ new) < 0 + m → Agree t.rest new → expr text m (t.taken ++ new) ≡ Err (length new)
+          again zero new lt ok = absurd (omega arith)
+          again (suc m) new lt ok = t.local m new (omega arith) ok
 
   sound : (n : ℕ) → Sound n
   unfolding expr

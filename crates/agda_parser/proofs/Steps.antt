@@ -42,10 +42,10 @@ pub all_of : {D E A : Type 0} (f : D → Input → Input) (g : D → A) (fs : E 
 all_of f g fs gs nil cons nf ng cf cg found [] c h = record { derivation = nil; gives = sym ng; spells = record { at = λ rest. nf rest ∙ (nothing c h).at rest } }
 all_of f g fs gs nil cons nf ng cf cg found (x ∷ xs) c h =
     let more = all_of f g fs gs nil cons nf ng cf cg (found ++ x ∷ []) xs h.1 h.4 in record {
-    derivation = cons h.3.derivation more.derivation;
-    gives = (λ i. h.3.gives i ∷ more.gives i) ∙ sym (cg h.3.derivation more.derivation);
-    spells = record { at = λ rest. cf h.3.derivation more.derivation rest ∙ (both h.2 h.3.spells more.spells).at rest };
-  }
+      derivation = cons h.3.derivation more.derivation;
+      gives = (λ i. h.3.gives i ∷ more.gives i) ∙ sym (cg h.3.derivation more.derivation);
+      spells = record { at = λ rest. cf h.3.derivation more.derivation rest ∙ (both h.2 h.3.spells more.spells).at rest };
+    }
 
 -- ---- one sign
 
@@ -69,9 +69,9 @@ Is kind m c = c ≡ tok kind m ∷ []
 marked : (kind : Kind) (s : Sign) (m : Mark) → mark_of kind s ≡ Some m → s ≡ tok kind m
 marked kind s m e = go (same_kind s.kind kind) refl e
   where
-  go : (b : Bool) → same_kind s.kind kind ≡ b → cond b (Some s.mark) None ≡ Some m → s ≡ tok kind m
-  go true q f = let same : s.mark ≡ m = cc in is_tok kind s q ∙ ap (tok kind) same
-  go false q f = absurd cc
+    go : (b : Bool) → same_kind s.kind kind ≡ b → cond b (Some s.mark) None ≡ Some m → s ≡ tok kind m
+    go true q f = let same : s.mark ≡ m = cc in is_tok kind s q ∙ ap (tok kind) same
+    go false q f = absurd cc
 
 pub expect_good : (kind : Kind) (s n : ℕ) → Good (Is kind) (λ j. expect kind) s n
 unfolding expect

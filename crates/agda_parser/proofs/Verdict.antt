@@ -19,7 +19,6 @@ agree_self (t ∷ ts) = refl
 module _ {D A : Type 0} (f : D → Input → Input) (g : D → A) (p : Family Sign A) (size : D → ℕ)
     (good : (n : ℕ) → Good (As f g) p 0 n) (ends : (n : ℕ) (ts : Input) (x : A) (rest : Input) → p n ts ≡ Ok (x, rest) → rest ≡ [])
     (read : (n : ℕ) (d : D) → size d ≤ n → p n (f d []) ≡ Ok (g d, [])) where
-
   abbrev answer : A × Input → Outcome Sign A
   answer q = Ok q
 
@@ -49,13 +48,13 @@ module _ {D A : Type 0} (f : D → Input → Input) (g : D → A) (p : Family Si
   pub only : (n : ℕ) (d : D) → length (f d []) < n → p n (f d []) ≡ Ok (g d, [])
   only n d lt = let big : ℕ = suc (size d + length (f d [])) in go big (omega arith) (read big d (omega arith)) (p n (f d [])) refl ((good n).at (f d []) (omega arith))
     where
-    go : (big : ℕ) → length (f d []) < big → p big (f d []) ≡ Ok (g d, []) → (r : Outcome Sign A) → p n (f d []) ≡ r → GoodFor (As f g) p 0 (f d []) r → p n (f d []) ≡ Ok (g d, [])
-    go big few so (Ok x) is t =
-        let again : p big (f d []) ≡ Ok (x.0, x.1) = ap (p big) t.split ∙ t.local big x.1 (subst (λ (y : Input). length y < 0 + big) t.split (omega arith)) (agree_self x.1) in
-        is ∙ sym again ∙ so
-    go big few so (Err k) is t =
-        let again : p big (f d []) ≡ Err (length t.rest) = ap (p big) t.split ∙ t.local big t.rest (subst (λ (y : Input). length y < 0 + big) t.split (omega arith)) (agree_self t.rest) in
-        absurd (cc (again, so))
+      go : (big : ℕ) → length (f d []) < big → p big (f d []) ≡ Ok (g d, []) → (r : Outcome Sign A) → p n (f d []) ≡ r → GoodFor (As f g) p 0 (f d []) r → p n (f d []) ≡ Ok (g d, [])
+      go big few so (Ok x) is t =
+          let again : p big (f d []) ≡ Ok (x.0, x.1) = ap (p big) t.split ∙ t.local big x.1 (subst (λ (y : Input). length y < 0 + big) t.split (omega arith)) (agree_self x.1) in
+          is ∙ sym again ∙ so
+      go big few so (Err k) is t =
+          let again : p big (f d []) ≡ Err (length t.rest) = ap (p big) t.split ∙ t.local big t.rest (subst (λ (y : Input). length y < 0 + big) t.split (omega arith)) (agree_self t.rest) in
+          absurd (cc (again, so))
 
   pub refused : (n : ℕ) (ts : Input) (k : ℕ) → length ts < n → p n ts ≡ Err k → (front : Input) × (rest : Input) × (ts ≡ front ++ rest) × (length rest ≡ k) × IsViable f front × IsWrong f front rest
   refused n ts k lt is =
@@ -65,9 +64,9 @@ module _ {D A : Type 0} (f : D → Input → Input) (g : D → A) (p : Family Si
   drop_front : (c r : Input) → drop (length (c ++ r) - length r) (c ++ r) ≡ r
   drop_front c r = let n : length (c ++ r) - length r ≡ length c = omega (arith, length-append c r) in rw n (drop_length c r)
     where
-    drop_length : (c r : Input) → drop (length c) (c ++ r) ≡ r
-    drop_length [] r = refl
-    drop_length (t ∷ c) r = drop_length c r
+      drop_length : (c r : Input) → drop (length c) (c ++ r) ≡ r
+      drop_length [] r = refl
+      drop_length (t ∷ c) r = drop_length c r
 
   module _ (text : List ℕ) where
     -- the whole list, in which nothing is nested too deep
@@ -75,17 +74,19 @@ module _ {D A : Type 0} (f : D → Input → Input) (g : D → A) (p : Family Si
     all_ok n i x rest lt within is = let h = found n i x rest lt is in
         (record { derivation = h.0; signs = h.1; gives = h.2; within = within }, λ d e. same_tree n i x rest d lt is e)
       where
-      same_tree : (n : ℕ) (i : Input) (x : A) (rest : Input) (d : D) → length i < n → p n i ≡ Ok (x, rest) → i ≡ f d [] → x ≡ g d
-      same_tree n i x rest d lt is e =
-          let so = only n d (subst (λ (y : Input). length y < n) e lt) in
-          ap (λ (q : A × Input). q.0) (ok_is (x, rest) (g d, []) (sym is ∙ ap (p n) e ∙ so))
+        same_tree : (n : ℕ) (i : Input) (x : A) (rest : Input) (d : D) → length i < n → p n i ≡ Ok (x, rest) → i ≡ f d [] → x ≡ g d
+        same_tree n i x rest d lt is e =
+            let so = only n d (subst (λ (y : Input). length y < n) e lt) in
+            ap (λ (q : A × Input). q.0) (ok_is (x, rest) (g d, []) (sym is ∙ ap (p n) e ∙ so))
 
     pub left_within : (n : ℕ) (i : Input) (k : ℕ) → length i < n → p n i ≡ Err k → k ≤ length i
     left_within n i k lt is = let r = refused n i k lt is in omega (arith, r.3, ap length r.2, length-append r.0 r.1)
 
     pub all_err : (n : ℕ) (i : Input) (k : ℕ) → length i < n → shallow origin i ≡ length i → p n i ≡ Err k → Settles f g text i (Err (Bad (place_at (end_pos text) (drop (length i - k) i)) Unexpected))
     all_err n i k lt within is = let r = refused n i k lt is in let at : drop (length (r.0 ++ r.1) - k) (r.0 ++ r.1) ≡ r.1 = ap (λ (m : ℕ). drop (length (r.0 ++ r.1) - m) (r.0 ++ r.1)) (sym r.3) ∙ drop_front r.0 r.1 in record {
-      front = r.0; rest = r.1; split = r.2;
+      front = r.0;
+      rest = r.1;
+      split = r.2;
       place = ap (place_at (end_pos text)) (ap (λ (y : Input). drop (length y - k) y) r.2 ∙ at);
       cause = (r.4, r.5, subst (λ (y : Input). length r.0 ≤ shallow origin y) r.2 (omega (arith, ap length r.2, length-append r.0 r.1)));
     }
@@ -101,9 +102,9 @@ module _ {D A : Type 0} (f : D → Input → Input) (g : D → A) (p : Family Si
       pub front_end : (n : ℕ) → length (c ++ t ∷ []) < n → p n (c ++ t ∷ []) ≡ Err 0 → Settles f g text (c ++ t ∷ more) (Err (Bad (place_at (end_pos text) (drop (length (c ++ t ∷ more) - length (t ∷ more)) (c ++ t ∷ more))) TooNested))
       front_end n lt is = let r = refused n (c ++ t ∷ []) 0 lt is in too_deep (subst (IsViable f) (no_rest r.1 r.3 r.0 r.2) r.4)
         where
-        no_rest : (rest : Input) → length rest ≡ 0 → (front : Input) → c ++ t ∷ [] ≡ front ++ rest → front ≡ c ++ t ∷ []
-        no_rest [] e front s = sym (append-nil front) ∙ sym s
-        no_rest (u ∷ us) e front s = absurd (omega arith)
+          no_rest : (rest : Input) → length rest ≡ 0 → (front : Input) → c ++ t ∷ [] ≡ front ++ rest → front ≡ c ++ t ∷ []
+          no_rest [] e front s = sym (append-nil front) ∙ sym s
+          no_rest (u ∷ us) e front s = absurd (omega arith)
 
       pub front_err : (n k : ℕ) → length (c ++ t ∷ []) < n → 0 < k → p n (c ++ t ∷ []) ≡ Err k
           → Settles f g text (c ++ t ∷ more) (Err (Bad (place_at (end_pos text) (drop (length (c ++ t ∷ more) - (length more + k)) (c ++ t ∷ more))) Unexpected))
@@ -111,14 +112,16 @@ module _ {D A : Type 0} (f : D → Input → Input) (g : D → A) (p : Family Si
           let split : c ++ t ∷ more ≡ r.0 ++ (r.1 ++ more) = sym (append_assoc c (t ∷ []) more) ∙ ap (λ (y : Input). y ++ more) r.2 ∙ append_assoc r.0 r.1 more in
           let left : length (r.1 ++ more) ≡ length more + k = omega (arith, r.3, length-append r.1 more) in
           let at : drop (length (r.0 ++ (r.1 ++ more)) - (length more + k)) (r.0 ++ (r.1 ++ more)) ≡ r.1 ++ more = ap (λ (m : ℕ). drop (length (r.0 ++ (r.1 ++ more)) - m) (r.0 ++ (r.1 ++ more))) (sym left) ∙ drop_front r.0 (r.1 ++ more) in record {
-          front = r.0; rest = r.1 ++ more; split = split;
-          place = ap (place_at (end_pos text)) (ap (λ (y : Input). drop (length y - (length more + k)) y) split ∙ at);
-          cause = (r.4, still r.0 r.1 r.3 r.5, subst (λ (y : Input). length r.0 ≤ shallow origin y) split (omega (arith, deep, r.3, ap length r.2, length-append r.0 r.1, length-append c (t ∷ []))));
-        }
+            front = r.0;
+            rest = r.1 ++ more;
+            split = split;
+            place = ap (place_at (end_pos text)) (ap (λ (y : Input). drop (length y - (length more + k)) y) split ∙ at);
+            cause = (r.4, still r.0 r.1 r.3 r.5, subst (λ (y : Input). length r.0 ≤ shallow origin y) split (omega (arith, deep, r.3, ap length r.2, length-append r.0 r.1, length-append c (t ∷ []))));
+          }
         where
-        still : (front rest : Input) → length rest ≡ k → IsWrong f front rest → IsWrong f front (rest ++ more)
-        still front [] e w = absurd (omega arith)
-        still front (u ∷ us) e w = w
+          still : (front rest : Input) → length rest ≡ k → IsWrong f front rest → IsWrong f front (rest ++ more)
+          still front [] e w = absurd (omega arith)
+          still front (u ∷ us) e w = w
 
     -- the same, where only the number of signs before the cut is told
     record Cut (i : Input) (count : ℕ) : Type 0 where
@@ -133,7 +136,9 @@ module _ {D A : Type 0} (f : D → Input → Input) (g : D → A) (p : Family Si
     cut [] count lt = absurd (omega arith)
     cut (t ∷ i) zero lt = record { front = []; sign = t; more = i; split = refl; left = refl; taken = refl }
     cut (t ∷ i) (suc count) lt = let c = cut i count (omega arith) in record {
-      front = t ∷ c.front; sign = c.sign; more = c.more;
+      front = t ∷ c.front;
+      sign = c.sign;
+      more = c.more;
       split = ap (λ (y : Input). t ∷ y) c.split;
       left = ap suc c.left;
       taken = ap (λ (m : ℕ). take m (t ∷ i)) (let e : suc count + 1 ≡ suc (count + 1) = omega arith in e) ∙ ap (λ (y : Input). t ∷ y) c.taken;

@@ -26,11 +26,11 @@ module _ (text : List ℕ) where
   pub whole_good : (n : ℕ) → Good (As then (tree text)) (whole_expr text) 0 n
   unfolding whole_expr
   whole_good n = weaken _ _ _ 0 n (λ y c s. record {
-      derivation = s.first.derivation;
-      gives = s.second.second.0 ∙ s.first.gives;
-      spells = record { at = (both s.whole s.first.spells (both s.second.whole (nothing _ s.second.first) (nothing _ s.second.second.1))).at };
-    })
-    (bind_good _ _ _ _ 0 n (expr_good text n) (λ x. bind_good _ _ _ _ 0 n (end_good 0 n) (λ _. pure_good x 0 n)))
+    derivation = s.first.derivation;
+    gives = s.second.second.0 ∙ s.first.gives;
+    spells = record { at = (both s.whole s.first.spells (both s.second.whole (nothing _ s.second.first) (nothing _ s.second.second.1))).at };
+  })
+      (bind_good _ _ _ _ 0 n (expr_good text n) (λ x. bind_good _ _ _ _ 0 n (end_good 0 n) (λ _. pure_good x 0 n)))
 
   pub whole_read : (n : ℕ) (d : Derivation) → size d ≤ n → whole_expr text n (then d []) ≡ Ok (tree text d, [])
   unfolding whole_expr at_end
@@ -46,10 +46,10 @@ module _ (text : List ℕ) where
   unfolding whole_expr at_end
   whole_ends n ts x rest is = go (expr text n ts) is
     where
-    go : (r : Outcome Sign Expr) → and_then r (λ y. at_end >>= (λ _. pure y)) ≡ Ok (x, rest) → rest ≡ []
-    go (Ok (y, [])) e = sym (ap (λ (q : Expr × Input). q.1) (ok_is (y, []) (x, rest) e))
-    go (Ok (y, t ∷ s)) e = absurd cc
-    go (Err f) e = absurd cc
+      go : (r : Outcome Sign Expr) → and_then r (λ y. at_end >>= (λ _. pure y)) ≡ Ok (x, rest) → rest ≡ []
+      go (Ok (y, [])) e = sym (ap (λ (q : Expr × Input). q.1) (ok_is (y, []) (x, rest) e))
+      go (Ok (y, t ∷ s)) e = absurd cc
+      go (Err f) e = absurd cc
 
   -- what the code's answer says of the parser's
   pub answers_of : (n : ℕ) (ts : Input) (r : Result Expr Stop) (new : Input) → Reads (whole_expr text n ts) r new → Answers (whole_expr text n ts) r

@@ -262,7 +262,13 @@ fn braced_arg(
 
 /// Reads what follows the dot of an argument.
 #[tactic(auto, unfolding(crate::specs::Syntax::project_arg))]
-fn project_arg(alloc: Global, text: &str, signs: &mut Signs<'_>, turns: usize, dot: Mark) -> Result<Arg, Stop>
+fn project_arg(
+    alloc: Global,
+    text: &str,
+    signs: &mut Signs<'_>,
+    turns: usize,
+    dot: Mark,
+) -> Result<Arg, Stop>
     ensures { Reads (spec.project_arg text.now turns (spec.expr text.now turns) dot signs.old) result signs.new }
 {
     if signs.sees(Kind::Name) {
@@ -270,10 +276,7 @@ fn project_arg(alloc: Global, text: &str, signs: &mut Signs<'_>, turns: usize, d
         Ok(Arg::Project(dot.place.to(mark.place), name_of(alloc, text, mark)?))
     } else {
         let mark = signs.expect(Kind::Qualified)?;
-        Ok(Arg::ProjectQualified(
-            dot.place.to(mark.place),
-            name_of(alloc, text, mark)?,
-        ))
+        Ok(Arg::ProjectQualified(dot.place.to(mark.place), name_of(alloc, text, mark)?))
     }
 }
 
@@ -333,11 +336,7 @@ fn arrow_tail(
         signs.expect(Kind::Arrow)?;
         let right = expr(alloc, text, signs, turns)?;
         let place = left.place().to(right.place());
-        Ok(Expr::Arrow(
-            place,
-            Boxed::new(alloc, left)?,
-            Boxed::new(alloc, right)?,
-        ))
+        Ok(Expr::Arrow(place, Boxed::new(alloc, left)?, Boxed::new(alloc, right)?))
     } else {
         Ok(left)
     }

@@ -72,7 +72,12 @@ fn refuse_front(alloc: Global, text: &str, signs: &[Sign], count: usize) -> Pars
             if n == 0 {
                 refusal(text, signs, signs.len() - count, ParseKind::TooNested)
             } else {
-                refusal(text, signs, signs.len() - (count + 1) + n, ParseKind::Unexpected)
+                refusal(
+                    text,
+                    signs,
+                    signs.len() - (count + 1) + n,
+                    ParseKind::Unexpected,
+                )
             }
         }
     }
