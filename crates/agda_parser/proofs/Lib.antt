@@ -4,3 +4,4 @@ pub mod Rules
 pub mod Complete
 pub mod Verdict
 pub mod Whole
+pub mod Depths

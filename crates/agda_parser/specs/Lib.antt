@@ -7,3 +7,4 @@ pub mod Nesting
 pub mod Reading
 pub mod NestingView
 pub mod Tokens
+pub mod Depths

@@ -7,6 +7,7 @@ mod cursor;
 mod error;
 mod exprs;
 mod form;
+pub mod laws;
 mod name;
 mod names;
 mod nesting;
