@@ -1,10 +1,10 @@
 -- The count of nesting over signs is that over a derivation.
-use Rattle.std.proofs.Common.{◌≡◌, ℕ, ◌+◌, Bool, true, false, cond, nat_lt, List, [], ◌∷◌, refl, sym, ap, ◌∙◌}
+use Rattle.std.proofs.Common.{◌≡◌, ℕ, ◌+◌, Bool, cond, nat_lt, List, [], ◌∷◌, refl, ap, ◌∙◌}
 use Rattle.agda_parser.specs.declared.sign.Kind.TheVariants as k
 use Rattle.agda_parser.specs.declared.sign.Mark.{Mark}
 use Rattle.agda_parser.specs.declared.sign.Sign.{Sign}
 use Rattle.agda_parser.specs.declared.bracket.Bracket.TheVariants.{Round, Curly}
-use Rattle.agda_parser.specs.Trees.{tok, open_of, close_of}
+use Rattle.agda_parser.specs.Trees.{tok}
 use Rattle.agda_parser.specs.Grammar.{Atom, Named, Qualified, Level, Hole, Blank, Paren, Record, Fields, NoField, Field, MoreFields, LastField, NextField, Argument, Plain, Braced, Equated, Projected, ProjectedQualified, Arguments, NoArgument, More, Typed, Typing, MoreTyped, LastTyped, NextTyped, Bound, BoundName, BoundBraced, BoundTyped, MoreBound, LastBound, NextBound, LambdaBound, BoundBlank, BoundAs, MoreLambdaBound, LastLambdaBound, NextLambdaBound, Derivation, Pi, Forall, Lambda, App, Arrow, names_then, atom_then, fields_then, more_fields_then, argument_then, arguments_then, typed_then, more_typed_then, bound_then, more_bound_then, lambda_bound_then, more_lambda_bound_then, then}
 use Rattle.agda_parser.specs.Nesting.{limit, rise, Depth, origin, nesting, behind, shallow}
 use Rattle.agda_parser.specs.Depths.{names_depths, atom_depths, fields_depths, more_fields_depths, argument_depths, arguments_depths, typed_depths, more_typed_depths, bound_depths, more_bound_depths, lambda_bound_depths, more_lambda_bound_depths, depths, nestings, leading}

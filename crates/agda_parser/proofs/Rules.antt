@@ -1,6 +1,5 @@
 -- Each rule of the grammar of expressions is read as the grammar says.
-use Rattle.std.proofs.Common.{◌≡◌, ℕ, zero, suc, ◌≤◌, ◌<◌, ◌+◌, Bool, true, false, ◌&&◌, cond, List, [], ◌∷◌, ◌++◌, ◌⊎◌, inl, inr, length, map, Result, Ok, Err, Option, Some, None, refl, sym, ap, subst, ◌∙◌, append_assoc, arith}
-use Rattle.std.proofs.lemmas.List.{append-nil, length-append}
+use Rattle.std.proofs.Common.{◌≡◌, ℕ, zero, suc, ◌≤◌, ◌<◌, ◌+◌, true, false, List, [], ◌∷◌, ◌++◌, ◌⊎◌, inl, inr, length, map, Ok, Err, refl, sym, ap, ◌∙◌, arith}
 use Rattle.source_tree.specs.declared.place.Name.{Name}
 use Rattle.source_tree.specs.declared.expr.Expr.{Expr}
 use Rattle.source_tree.specs.declared.expr.Expr.TheVariants as e
@@ -16,18 +15,17 @@ use Rattle.agda_parser.specs.declared.sign.Mark.{Mark}
 use Rattle.agda_parser.specs.declared.sign.Sign.{Sign}
 use Rattle.agda_parser.specs.declared.bracket.Bracket.{Bracket}
 use Rattle.agda_parser.specs.declared.bracket.Bracket.TheVariants.{Round, Curly}
-use Rattle.agda_parser.specs.declared.quantifier.Quantifier.{Quantifier}
 use Rattle.agda_parser.specs.declared.quantifier.Quantifier.TheVariants as q
 use Rattle.agda_parser.specs.Names.{name_of}
 use Rattle.agda_parser.specs.Trees.{tok, open_of, close_of, typed_binder, applied}
-use Rattle.agda_parser.specs.Signs.{Input, same_kind, is, sees, expect, begins_atom, names_colon, colon_follows, equals_follows}
-use Rattle.agda_parser.specs.Grammar.{Atom, Named, Qualified, Level, Hole, Blank, Paren, Record, Fields, NoField, Field, MoreFields, LastField, NextField, Argument, Plain, Braced, Equated, Projected, ProjectedQualified, Arguments, NoArgument, More, Typed, Typing, MoreTyped, LastTyped, NextTyped, Bound, BoundName, BoundBraced, BoundTyped, MoreBound, LastBound, NextBound, LambdaBound, BoundBlank, BoundAs, MoreLambdaBound, LastLambdaBound, NextLambdaBound, Derivation, Pi, Forall, Lambda, App, Arrow, names_then, atom_then, fields_then, more_fields_then, argument_then, arguments_then, typed_then, more_typed_then, bound_then, more_bound_then, lambda_bound_then, more_lambda_bound_then, then, atom_tree, fields_tree, more_fields_tree, argument_tree, arguments_tree, typed_tree, more_typed_tree, bound_tree, more_bound_tree, lambda_bound_tree, more_lambda_bound_tree, tree}
-use Rattle.agda_parser.specs.Syntax.{begins_typed, begins_arg, begins_bound, begins_binder, quantifier_kind, quantified_tree, name, one_name, names, typed_from, typed_after, typed, one_typed, more_typed, pi_from, paren_after, field, one_field, more_fields, fields, record_atom, simple_atom, named_arg, implicit_arg, braced_arg, project_arg, arg, one_arg, args, arrow_tail, app_from, after_paren, braced_from, bound, lambda_bound, binder, one_binder, binders, quantified, level, expr}
-use Rattle.parse_laws.specs.Parser.{Outcome, Parser, and_then, ◌>>=◌, ◌>>◌, pure, one, next_is, choose, optional, many_from}
-use Rattle.parse_laws.proofs.Good.{Language, Family, Good, Seq, Agree, GoodFor, Took, Refused, Word, bind_good, chain_good, pure_good, weaken, shorten, choose_good, UpTo, good_up, bind_up}
+use Rattle.agda_parser.specs.Signs.{Input, same_kind, is, expect, begins_atom, names_colon, colon_follows, equals_follows}
+use Rattle.agda_parser.specs.Grammar.{Atom, Named, Qualified, Level, Hole, Blank, Paren, Record, NoField, Field, LastField, NextField, Argument, Plain, Braced, Equated, Projected, ProjectedQualified, Arguments, NoArgument, More, Typed, Typing, MoreTyped, LastTyped, NextTyped, Bound, BoundName, BoundBraced, BoundTyped, LastBound, NextBound, LambdaBound, BoundBlank, BoundAs, LastLambdaBound, NextLambdaBound, Derivation, Pi, Forall, Lambda, App, Arrow, names_then, atom_then, fields_then, more_fields_then, argument_then, arguments_then, typed_then, more_typed_then, bound_then, more_bound_then, lambda_bound_then, more_lambda_bound_then, then, atom_tree, fields_tree, more_fields_tree, argument_tree, arguments_tree, typed_tree, more_typed_tree, bound_tree, more_bound_tree, lambda_bound_tree, more_lambda_bound_tree, tree}
+use Rattle.agda_parser.specs.Syntax.{begins_typed, begins_arg, begins_bound, begins_binder, name, one_name, names, typed_from, typed_after, typed, one_typed, more_typed, pi_from, paren_after, field, one_field, more_fields, fields, record_atom, simple_atom, named_arg, implicit_arg, braced_arg, project_arg, arg, one_arg, args, arrow_tail, app_from, after_paren, braced_from, bound, lambda_bound, binder, one_binder, binders, quantified, level, expr}
+use Rattle.parse_laws.specs.Parser.{Outcome, ◌>>=◌, pure, one, next_is, many_from}
+use Rattle.parse_laws.proofs.Good.{Language, Family, Good, Seq, Agree, GoodFor, bind_good, pure_good, weaken, shorten, choose_good, UpTo, good_up, bind_up}
 use Rattle.parse_laws.proofs.Many.{AllOf, Item, Behind, many_good, optional_good, turns_up}
 use Rattle.parse_laws.proofs.Look.{lined, lined_longer, Eats, LooksOver, look_good}
-use Rattle.agda_parser.proofs.Steps.{Spells, both, single, nothing, As, long_as, all_of, same_is, is_tok, Is, expect_good, after_sign}
+use Rattle.agda_parser.proofs.Steps.{Spells, both, single, nothing, As, long_as, all_of, is_tok, Is, expect_good, after_sign}
 
 -- a value put at the end takes no sign
 abbrev Gives : {A : Type 0} → A → Language Sign A

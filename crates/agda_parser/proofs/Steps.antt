@@ -1,14 +1,14 @@
 -- Signs and the lists that they begin: the steps of which every rule is made.
-use Rattle.std.proofs.Common.{◌≡◌, ℕ, zero, suc, ◌≤◌, ◌<◌, ◌+◌, Bool, true, false, cond, List, [], ◌∷◌, ◌++◌, length, Result, Ok, Err, Option, Some, None, refl, sym, ap, subst, ◌∙◌, append_assoc, rules, arith}
-use Rattle.std.proofs.lemmas.List.{append-nil, length-append}
+use Rattle.std.proofs.Common.{◌≡◌, ℕ, ◌<◌, Bool, true, false, cond, List, [], ◌∷◌, ◌++◌, length, Some, None, refl, sym, ap, ◌∙◌, append_assoc, rules, arith}
+use Rattle.std.proofs.lemmas.List.{length-append}
 use denote.Enum.Bare.{same_true, true_same}
 use Rattle.agda_parser.specs.contracts.sign.Kind.{the_type}
 use Rattle.agda_parser.specs.declared.sign.Kind.{Kind}
 use Rattle.agda_parser.specs.declared.sign.Mark.{Mark}
 use Rattle.agda_parser.specs.declared.sign.Sign.{Sign}
-use Rattle.agda_parser.specs.Signs.{Input, same_kind, is, sees, mark_of, expect}
+use Rattle.agda_parser.specs.Signs.{Input, same_kind, is, mark_of, expect}
 use Rattle.agda_parser.specs.Trees.{tok}
-use Rattle.parse_laws.specs.Parser.{Outcome, Parser, ◌>>=◌, one}
+use Rattle.parse_laws.specs.Parser.{◌>>=◌, one}
 use Rattle.parse_laws.proofs.Good.{Language, Family, Good, Seq, One, one_good, weaken, chain_good}
 use Rattle.parse_laws.proofs.Many.{AllOf}
 

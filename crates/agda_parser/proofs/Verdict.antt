@@ -1,15 +1,15 @@
 -- Where a parser of whole lists is known to be sound, local, viable and complete, its answers on a list, cut behind the first sign that is
 -- nested too deep, are those of the definition of reading.
-use Rattle.std.proofs.Common.{◌≡◌, ℕ, zero, suc, ◌≤◌, ◌<◌, ◌+◌, ◌-◌, Bool, true, false, List, [], ◌∷◌, ◌++◌, length, take, drop, Result, Ok, Err, refl, sym, ap, subst, ◌∙◌, append_assoc, arith}
+use Rattle.std.proofs.Common.{◌≡◌, ℕ, zero, suc, ◌≤◌, ◌<◌, ◌+◌, ◌-◌, List, [], ◌∷◌, ◌++◌, length, take, drop, Ok, Err, refl, sym, ap, subst, ◌∙◌, append_assoc, arith}
 use Rattle.std.proofs.lemmas.List.{append-nil, length-append}
 use Rattle.agda_parser.specs.declared.sign.Sign.{Sign}
 use Rattle.agda_parser.specs.declared.error.ParseError.TheVariants.{Bad}
 use Rattle.agda_parser.specs.declared.error.ParseKind.TheVariants.{Unexpected, TooNested}
 use Rattle.agda_parser.specs.Nesting.{origin, shallow}
-use Rattle.agda_parser.specs.Reading.{ReadsAs, IsViable, IsWrong, IsCause, Settles, place_at, end_pos}
+use Rattle.agda_parser.specs.Reading.{IsViable, IsWrong, Settles, place_at, end_pos}
 use Rattle.agda_parser.specs.Signs.{Input}
-use Rattle.parse_laws.specs.Parser.{Outcome, Parser}
-use Rattle.parse_laws.proofs.Good.{Language, Family, Good, GoodFor, Took, Refused, Agree, Viable}
+use Rattle.parse_laws.specs.Parser.{Outcome}
+use Rattle.parse_laws.proofs.Good.{Family, Good, GoodFor, Agree, Viable}
 use Rattle.agda_parser.proofs.Steps.{As}
 
 agree_self : (ts : Input) → Agree ts ts

@@ -1,6 +1,5 @@
 -- One expression and nothing behind it.
-use Rattle.std.proofs.Common.{◌≡◌, ℕ, zero, suc, ◌≤◌, ◌<◌, ◌+◌, ◌-◌, Bool, true, false, cond, nat_lt, take, drop, List, [], ◌∷◌, ◌++◌, length, Result, Ok, Err, refl, sym, ap, ◌∙◌, arith}
-use Rattle.std.proofs.lemmas.List.{append-nil}
+use Rattle.std.proofs.Common.{◌≡◌, ℕ, suc, ◌≤◌, ◌<◌, ◌+◌, ◌-◌, Bool, true, false, cond, nat_lt, take, drop, List, [], ◌∷◌, length, Result, Ok, Err, refl, sym, ap, ◌∙◌, arith}
 use Rattle.source_tree.specs.declared.expr.Expr.{Expr}
 use Rattle.agda_parser.specs.declared.stop.Stop.{Stop}
 use Rattle.agda_parser.specs.declared.stop.Stop.TheVariants.{Unexpected, NoMemory}
@@ -13,9 +12,9 @@ use Rattle.agda_parser.specs.declared.sign.Sign.{Sign}
 use Rattle.agda_parser.specs.Signs.{Input, Reads, Answers, Checked}
 use Rattle.agda_parser.specs.Grammar.{Derivation, then, tree}
 use Rattle.agda_parser.specs.Syntax.{expr, whole_expr}
-use Rattle.parse_laws.specs.Parser.{Outcome, Parser, and_then, ◌>>=◌, pure, at_end}
+use Rattle.parse_laws.specs.Parser.{Outcome, and_then, ◌>>=◌, pure, at_end}
 use Rattle.parse_laws.proofs.Good.{Good, bind_good, pure_good, weaken, end_good}
-use Rattle.agda_parser.proofs.Steps.{As, Spells, both, nothing}
+use Rattle.agda_parser.proofs.Steps.{As, both, nothing}
 use Rattle.agda_parser.proofs.Rules.{expr_good}
 use Rattle.agda_parser.proofs.Complete.{Stops, size, read}
 

@@ -1,6 +1,5 @@
 -- The grammar. A derivation is a value of these types: one constructor for each alternative, with the marks of its signs.
-use Rattle.std.specs.Prelude.{◌≡◌, ℕ, zero, suc, Bool, true, false, List, [], ◌∷◌, ◌++◌, map}
-use Rattle.source_tree.specs.declared.place.Name.{Name}
+use Rattle.std.specs.Prelude.{ℕ, List, [], ◌∷◌, map}
 use Rattle.source_tree.specs.declared.expr.Expr.{Expr}
 use Rattle.source_tree.specs.declared.expr.Expr.TheVariants as e
 use Rattle.source_tree.specs.declared.expr.Arg.{Arg}
@@ -8,8 +7,7 @@ use Rattle.source_tree.specs.declared.expr.Arg.TheVariants as a
 use Rattle.source_tree.specs.declared.expr.Binder.{Binder}
 use Rattle.source_tree.specs.declared.expr.Binder.TheVariants as b
 use Rattle.source_tree.specs.declared.expr.FieldValue.{FieldValue}
-use Rattle.source_tree.specs.Places.{joined, expr_place, arg_place, binder_place}
-use Rattle.agda_parser.specs.declared.sign.Kind.{Kind}
+use Rattle.source_tree.specs.Places.{joined, expr_place, binder_place}
 use Rattle.agda_parser.specs.declared.sign.Kind.TheVariants as k
 use Rattle.agda_parser.specs.declared.sign.Mark.{Mark}
 use Rattle.agda_parser.specs.declared.sign.Sign.{Sign}

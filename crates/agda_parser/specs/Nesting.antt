@@ -1,6 +1,6 @@
 -- The nesting of a sign: how many pairs of parentheses, pairs of braces, bodies of `λ` and right sides of arrows it stands in.
 -- A parenthesis or a brace does not stand in its own pair. The count stands still above the limit.
-use Rattle.std.specs.Prelude.{ℕ, ◌+◌, Bool, true, false, if◌then◌else◌, List, [], ◌∷◌, nat_lt}
+use Rattle.std.specs.Prelude.{ℕ, ◌+◌, if◌then◌else◌, List, [], ◌∷◌, nat_lt}
 use Rattle.agda_parser.specs.declared.sign.Kind.{Kind}
 use Rattle.agda_parser.specs.declared.sign.Kind.TheVariants as k
 use Rattle.agda_parser.specs.declared.sign.Sign.{Sign}

@@ -1,5 +1,5 @@
 -- The signs of which a text of the grammar is made, the reading of one, and what the parser looks at before it goes on.
-use Rattle.std.specs.Prelude.{◌≡◌, ◌≢◌, ℕ, Bool, true, false, ◌&&◌, if◌then◌else◌, List, [], ◌∷◌, length, Option, Some, None, Result, Ok, Err}
+use Rattle.std.specs.Prelude.{◌≡◌, ◌≢◌, ℕ, Bool, true, false, ◌&&◌, if◌then◌else◌, List, [], ◌∷◌, Option, Some, None, Result, Ok, Err}
 use denote.Enum.Bare.{sameb}
 use Rattle.agda_parser.specs.contracts.sign.Kind.{the_type}
 use Rattle.agda_parser.specs.declared.sign.Kind.{Kind}

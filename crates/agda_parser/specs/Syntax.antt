@@ -1,5 +1,5 @@
 -- The parser of expressions by descent, as a function on lists. The number of turns that a list gives rise to is bounded by that of its signs.
-use Rattle.std.specs.Prelude.{◌≡◌, ℕ, zero, suc, Bool, true, false, if◌then◌else◌, List, [], ◌∷◌, ◌++◌, length, Option, Some, None, Result, Ok, Err}
+use Rattle.std.specs.Prelude.{ℕ, zero, suc, Bool, true, if◌then◌else◌, List, [], ◌∷◌, length, Option, Err}
 use Rattle.source_tree.specs.declared.place.Name.{Name}
 use Rattle.source_tree.specs.declared.expr.Expr.{Expr}
 use Rattle.source_tree.specs.declared.expr.Expr.TheVariants as e
@@ -19,8 +19,8 @@ use Rattle.agda_parser.specs.declared.quantifier.Quantifier.{Quantifier}
 use Rattle.agda_parser.specs.declared.quantifier.Quantifier.TheVariants as q
 use Rattle.agda_parser.specs.Names.{name_of}
 use Rattle.agda_parser.specs.Trees.{close_of, typed_binder, applied}
-use Rattle.agda_parser.specs.Signs.{Input, is, sees, expect, begins_atom, sees_atom, colon_follows, equals_follows}
-use Rattle.parse_laws.specs.Parser.{Outcome, Parser, ◌>>=◌, ◌>>◌, pure, choose, optional, many_from, at_end}
+use Rattle.agda_parser.specs.Signs.{is, expect, begins_atom, colon_follows, equals_follows}
+use Rattle.parse_laws.specs.Parser.{Parser, ◌>>=◌, ◌>>◌, pure, choose, optional, many_from, at_end}
 
 abbrev pub begins_typed : Sign → Bool
 begins_typed s = if is k.ParenOpen s then true else is k.BraceOpen s

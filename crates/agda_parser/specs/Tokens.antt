@@ -1,6 +1,5 @@
 -- The signs of a list of tokens, and of a laid one.
-use Rattle.std.specs.Prelude.{◌≡◌, ℕ, ◌<◌, List, [], ◌∷◌, length, map, All}
-use Rattle.std.specs.List.{slice_index_or}
+use Rattle.std.specs.Prelude.{ℕ, List, map}
 use Rattle.agda_lexer.specs.declared.token.Token.{Token}
 use Rattle.agda_lexer.specs.declared.token.TokenKind.{TokenKind}
 use Rattle.agda_lexer.specs.declared.token.TokenKind.TheVariants as t

@@ -1,5 +1,5 @@
 -- How trees are put together: their places, and applications of applications.
-use Rattle.std.specs.Prelude.{ℕ, List, [], ◌∷◌, ◌++◌}
+use Rattle.std.specs.Prelude.{List, [], ◌∷◌, ◌++◌}
 use Rattle.source_tree.specs.declared.place.Place.{Place}
 use Rattle.source_tree.specs.declared.place.Name.{Name}
 use Rattle.source_tree.specs.declared.expr.Expr.{Expr, out-Expr}

@@ -10,5 +10,4 @@ ghost use Rattle.agda_parser.specs.Depths.{depths, nestings, leading};
 pub fn nesting_of_derivations()
     ensures each { (d : Derivation) → nestings origin (then d []) ≡ depths d 0 [] }
     ensures first_too_deep { (d : Derivation) → shallow origin (then d []) ≡ leading (depths d 0 []) }
-{
-}
+{}

@@ -1,8 +1,8 @@
 -- What every parser does: what it takes is in its language, what it took before a refusal can be gone on with, and its answer
 -- depends on what it took and on the token after that. A parser is a family over the number of turns that it may make; what is said of it
 -- is said of lists that are short enough for these.
-use Rattle.std.proofs.Common.{◌≡◌, ℕ, zero, suc, ◌≤◌, ◌<◌, ◌+◌, Bool, true, false, cond, List, [], ◌∷◌, ◌++◌, length, Result, Ok, Err, Option, Some, None, refl, sym, ap, subst, ◌∙◌, append_assoc, arith}
-use Rattle.std.proofs.lemmas.List.{append-nil, length-append}
+use Rattle.std.proofs.Common.{◌≡◌, ℕ, ◌≤◌, ◌<◌, ◌+◌, Bool, true, false, cond, List, [], ◌∷◌, ◌++◌, length, Ok, Err, Option, Some, None, refl, sym, ap, subst, ◌∙◌, append_assoc, arith}
+use Rattle.std.proofs.lemmas.List.{length-append}
 use Rattle.parse_laws.specs.Parser.{Outcome, Parser, and_then, ◌>>=◌, pure, given, one, next_is, choose, at_end}
 
 -- the same token comes next, or none
@@ -98,7 +98,7 @@ module _ {S A B : Type 0} (L : Language S A) (M : A → Language S B) (p : Famil
   through ts a rest t m d left new e lt ok =
       ap (both m) (append_assoc t.taken d new)
       ∙ ap (λ (r : Outcome S A). and_then r (λ b. q b m))
-        (t.local m (d ++ new) (subst (λ (y : List S). length y < s + m) (append_assoc t.taken d new) lt) (subst (λ (y : List S). Agree y (d ++ new)) (sym e) (agree_behind d left new ok)))
+      (t.local m (d ++ new) (subst (λ (y : List S). length y < s + m) (append_assoc t.taken d new) lt) (subst (λ (y : List S). Agree y (d ++ new)) (sym e) (agree_behind d left new ok)))
 
   behind : (ts : List S) (a : A) (rest : List S) (t : Took L p s ts a rest) (m : ℕ) (d new : List S) → length ((t.taken ++ d) ++ new) < s + m → length (d ++ new) < s' + m
   behind ts a rest t m d new lt = omega (arith, less a t.taken t.reads, length-append (t.taken ++ d) new, length-append t.taken d, length-append d new)
@@ -125,7 +125,11 @@ module _ {S A B : Type 0} (L : Language S A) (M : A → Language S B) (p : Famil
       let short : length x.1 < s' + n = omega (arith, less x.0 g.taken g.reads, ap length g.split, length-append g.taken x.1) in
       after ts x.0 x.1 g (q x.0 n x.1) ((goodq x.0).at x.1 short)
   first ts lt (Err k) g = record {
-    taken = g.taken; rest = g.rest; split = g.split; left = g.left; viable = viable_front g.taken g.viable;
+    taken = g.taken;
+    rest = g.rest;
+    split = g.split;
+    left = g.left;
+    viable = viable_front g.taken g.viable;
     local = λ m new lt ok. ap (λ (r : Outcome S A). and_then r (λ b. q b m)) (g.local m new lt ok);
   }
 
@@ -153,19 +157,20 @@ pure_good a s n = record {
 pub weaken : {S A : Type 0} (L M : Language S A) (p : Family S A) (s n : ℕ) → ((a : A) (c : List S) → L a c → M a c) → Good L p s n → Good M p s n
 weaken {S = S} {A = A} L M p s n to g = record { at = λ ts lt. go ts (p n ts) (g.at ts lt); word = record { value = g.word.value; tokens = g.word.tokens; reads = to g.word.value g.word.tokens g.word.reads } }
   where
-  viable : (c : List S) → Viable L c → Viable M c
-  viable c v = record { value = v.value; more = v.more; whole = to v.value (c ++ v.more) v.whole }
-  go : (ts : List S) (r : Outcome S A) → GoodFor L p s ts r → GoodFor M p s ts r
-  go ts (Ok x) t = record { taken = t.taken; split = t.split; reads = to x.0 t.taken t.reads; local = t.local }
-  go ts (Err k) t = record { taken = t.taken; rest = t.rest; split = t.split; left = t.left; viable = viable t.taken t.viable; local = t.local }
+    viable : (c : List S) → Viable L c → Viable M c
+    viable c v = record { value = v.value; more = v.more; whole = to v.value (c ++ v.more) v.whole }
+
+    go : (ts : List S) (r : Outcome S A) → GoodFor L p s ts r → GoodFor M p s ts r
+    go ts (Ok x) t = record { taken = t.taken; split = t.split; reads = to x.0 t.taken t.reads; local = t.local }
+    go ts (Err k) t = record { taken = t.taken; rest = t.rest; split = t.split; left = t.left; viable = viable t.taken t.viable; local = t.local }
 
 -- with one token less
 pub shorten : {S A : Type 0} (L : Language S A) (p : Family S A) (n : ℕ) → Good L p 1 n → Good L p 0 n
 shorten {S = S} {A = A} L p n g = record { at = λ ts lt. go ts (p n ts) (g.at ts (omega arith)); word = g.word }
   where
-  go : (ts : List S) (r : Outcome S A) → GoodFor L p 1 ts r → GoodFor L p 0 ts r
-  go ts (Ok x) t = record { taken = t.taken; split = t.split; reads = t.reads; local = λ m new lt ok. t.local m new (omega arith) ok }
-  go ts (Err k) t = record { taken = t.taken; rest = t.rest; split = t.split; left = t.left; viable = t.viable; local = λ m new lt ok. t.local m new (omega arith) ok }
+    go : (ts : List S) (r : Outcome S A) → GoodFor L p 1 ts r → GoodFor L p 0 ts r
+    go ts (Ok x) t = record { taken = t.taken; split = t.split; reads = t.reads; local = λ m new lt ok. t.local m new (omega arith) ok }
+    go ts (Err k) t = record { taken = t.taken; rest = t.rest; split = t.split; left = t.left; viable = t.viable; local = λ m new lt ok. t.local m new (omega arith) ok }
 
 abbrev pub One : {S A : Type 0} → (S → Option A) → Language S A
 One {S = S} read a c = (t : S) × (c ≡ t ∷ []) × (read t ≡ Some a)
@@ -174,22 +179,24 @@ pub one_good : {S A : Type 0} (read : S → Option A) (t : S) (a : A) (s n : ℕ
 unfolding one
 one_good {S = S} {A = A} read t a s n is = record { at = λ ts lt. at ts; word = record { value = a; tokens = t ∷ []; reads = (t, refl, is) } }
   where
-  viable : Viable (One read) []
-  viable = record { value = a; more = t ∷ []; whole = (t, refl, is) }
-  by_read : (u : S) (us : List S) (o : Option A) → read u ≡ o → GoodFor (One read) (λ m. one read) s (u ∷ us) (given (u ∷ us) us o)
-  by_read u us (Some b) e = record { taken = u ∷ []; split = refl; reads = (u, refl, e); local = λ m new lt ok. rw e refl }
-  by_read u us None e = record { taken = []; rest = u ∷ us; split = refl; left = refl; viable = viable; local = λ m new lt ok. other new ok }
-    where
-    other : (new : List S) → Agree (u ∷ us) new → one read new ≡ Err (length new)
-    other [] ok = absurd ok
-    other (v ∷ vs) ok = rw (← ok, e) refl
-  at : (ts : List S) → GoodFor (One read) (λ m. one read) s ts (one read ts)
-  at [] = record { taken = []; rest = []; split = refl; left = refl; viable = viable; local = λ m new lt ok. none new ok }
-    where
-    none : (new : List S) → Agree [] new → one read new ≡ Err (length new)
-    none [] ok = refl
-    none (u ∷ us) ok = absurd ok
-  at (u ∷ us) = by_read u us (read u) refl
+    viable : Viable (One read) []
+    viable = record { value = a; more = t ∷ []; whole = (t, refl, is) }
+
+    by_read : (u : S) (us : List S) (o : Option A) → read u ≡ o → GoodFor (One read) (λ m. one read) s (u ∷ us) (given (u ∷ us) us o)
+    by_read u us (Some b) e = record { taken = u ∷ []; split = refl; reads = (u, refl, e); local = λ m new lt ok. rw e refl }
+    by_read u us None e = record { taken = []; rest = u ∷ us; split = refl; left = refl; viable = viable; local = λ m new lt ok. other new ok }
+      where
+        other : (new : List S) → Agree (u ∷ us) new → one read new ≡ Err (length new)
+        other [] ok = absurd ok
+        other (v ∷ vs) ok = rw (← ok, e) refl
+
+    at : (ts : List S) → GoodFor (One read) (λ m. one read) s ts (one read ts)
+    at [] = record { taken = []; rest = []; split = refl; left = refl; viable = viable; local = λ m new lt ok. none new ok }
+      where
+        none : (new : List S) → Agree [] new → one read new ≡ Err (length new)
+        none [] ok = refl
+        none (u ∷ us) ok = absurd ok
+    at (u ∷ us) = by_read u us (read u) refl
 
 -- a token first: what follows has one turn less to answer for
 pub step_good : {S A B : Type 0} (read : S → Option A) (t : S) (a : A) (is : read t ≡ Some a) (M : A → Language S B) (q : A → Family S B) (n : ℕ) → ((b : A) → Good (M b) (q b) 0 n) → Good (Seq (One read) M) (λ m. one read >>= (λ b. q b m)) 1 n
@@ -199,17 +206,20 @@ step_good read t a is M q n goodq = chain_good (One read) M (λ m. one read) q 1
 pub choose_good : {S A : Type 0} (test : S → Bool) (L : Language S A) (p q : Family S A) (s n : ℕ) → Good L p s n → Good L q s n → Good L (λ m. choose test (p m) (q m)) s n
 choose_good {S = S} {A = A} test L p q s n goodp goodq = record { at = λ ts lt. go ts lt (next_is test ts) refl; word = goodq.word }
   where
-  seen : (ts c rest new : List S) → ts ≡ c ++ rest → Agree rest new → next_is test (c ++ new) ≡ next_is test ts
-  seen ts c rest new e ok = sym (agree_next test (c ++ rest) (c ++ new) (agree_behind c rest new ok)) ∙ ap (next_is test) (sym e)
-  first : (ts : List S) → next_is test ts ≡ true → (r : Outcome S A) → GoodFor L p s ts r → GoodFor L (λ m. choose test (p m) (q m)) s ts r
-  first ts b (Ok x) t = record { taken = t.taken; split = t.split; reads = t.reads; local = λ m new lt ok. rw (seen ts t.taken x.1 new t.split ok ∙ b) (t.local m new lt ok) }
-  first ts b (Err k) t = record { taken = t.taken; rest = t.rest; split = t.split; left = t.left; viable = t.viable; local = λ m new lt ok. rw (seen ts t.taken t.rest new t.split ok ∙ b) (t.local m new lt ok) }
-  second : (ts : List S) → next_is test ts ≡ false → (r : Outcome S A) → GoodFor L q s ts r → GoodFor L (λ m. choose test (p m) (q m)) s ts r
-  second ts b (Ok x) t = record { taken = t.taken; split = t.split; reads = t.reads; local = λ m new lt ok. rw (seen ts t.taken x.1 new t.split ok ∙ b) (t.local m new lt ok) }
-  second ts b (Err k) t = record { taken = t.taken; rest = t.rest; split = t.split; left = t.left; viable = t.viable; local = λ m new lt ok. rw (seen ts t.taken t.rest new t.split ok ∙ b) (t.local m new lt ok) }
-  go : (ts : List S) → length ts < s + n → (b : Bool) → next_is test ts ≡ b → GoodFor L (λ m. choose test (p m) (q m)) s ts (cond b (p n ts) (q n ts))
-  go ts lt true e = first ts e (p n ts) (goodp.at ts lt)
-  go ts lt false e = second ts e (q n ts) (goodq.at ts lt)
+    seen : (ts c rest new : List S) → ts ≡ c ++ rest → Agree rest new → next_is test (c ++ new) ≡ next_is test ts
+    seen ts c rest new e ok = sym (agree_next test (c ++ rest) (c ++ new) (agree_behind c rest new ok)) ∙ ap (next_is test) (sym e)
+
+    first : (ts : List S) → next_is test ts ≡ true → (r : Outcome S A) → GoodFor L p s ts r → GoodFor L (λ m. choose test (p m) (q m)) s ts r
+    first ts b (Ok x) t = record { taken = t.taken; split = t.split; reads = t.reads; local = λ m new lt ok. rw (seen ts t.taken x.1 new t.split ok ∙ b) (t.local m new lt ok) }
+    first ts b (Err k) t = record { taken = t.taken; rest = t.rest; split = t.split; left = t.left; viable = t.viable; local = λ m new lt ok. rw (seen ts t.taken t.rest new t.split ok ∙ b) (t.local m new lt ok) }
+
+    second : (ts : List S) → next_is test ts ≡ false → (r : Outcome S A) → GoodFor L q s ts r → GoodFor L (λ m. choose test (p m) (q m)) s ts r
+    second ts b (Ok x) t = record { taken = t.taken; split = t.split; reads = t.reads; local = λ m new lt ok. rw (seen ts t.taken x.1 new t.split ok ∙ b) (t.local m new lt ok) }
+    second ts b (Err k) t = record { taken = t.taken; rest = t.rest; split = t.split; left = t.left; viable = t.viable; local = λ m new lt ok. rw (seen ts t.taken t.rest new t.split ok ∙ b) (t.local m new lt ok) }
+
+    go : (ts : List S) → length ts < s + n → (b : Bool) → next_is test ts ≡ b → GoodFor L (λ m. choose test (p m) (q m)) s ts (cond b (p n ts) (q n ts))
+    go ts lt true e = first ts e (p n ts) (goodp.at ts lt)
+    go ts lt false e = second ts e (q n ts) (goodq.at ts lt)
 
 -- ---- the end
 
@@ -220,17 +230,17 @@ pub end_good : {S : Type 0} (s n : ℕ) → Good {S = S} Nothing (λ m. at_end) 
 unfolding at_end
 end_good {S = S} s n = record { at = λ ts lt. at ts; word = record { value = tt; tokens = []; reads = refl } }
   where
-  at : (ts : List S) → GoodFor Nothing (λ m. at_end) s ts (at_end ts)
-  at [] = record { taken = []; split = refl; reads = refl; local = λ m new lt ok. only new ok }
-    where
-    only : (new : List S) → Agree [] new → at_end new ≡ Ok (tt, new)
-    only [] ok = refl
-    only (u ∷ us) ok = absurd ok
-  at (t ∷ ts) = record { taken = []; rest = t ∷ ts; split = refl; left = refl; viable = record { value = tt; more = []; whole = refl }; local = λ m new lt ok. other new ok }
-    where
-    other : (new : List S) → Agree (t ∷ ts) new → at_end new ≡ Err (length new)
-    other [] ok = absurd ok
-    other (u ∷ us) ok = refl
+    at : (ts : List S) → GoodFor Nothing (λ m. at_end) s ts (at_end ts)
+    at [] = record { taken = []; split = refl; reads = refl; local = λ m new lt ok. only new ok }
+      where
+        only : (new : List S) → Agree [] new → at_end new ≡ Ok (tt, new)
+        only [] ok = refl
+        only (u ∷ us) ok = absurd ok
+    at (t ∷ ts) = record { taken = []; rest = t ∷ ts; split = refl; left = refl; viable = record { value = tt; more = []; whole = refl }; local = λ m new lt ok. other new ok }
+      where
+        other : (new : List S) → Agree (t ∷ ts) new → at_end new ≡ Err (length new)
+        other [] ok = absurd ok
+        other (u ∷ us) ok = refl
 
 -- ---- how much is left
 
@@ -242,9 +252,9 @@ UpTo m (Err k) = k ≤ m
 pub good_up : {S A : Type 0} (L : Language S A) (p : Family S A) (s n : ℕ) → Good L p s n → (m : ℕ) (ts : List S) → length ts < s + n → length ts ≤ m → UpTo m (p n ts)
 good_up {S = S} {A = A} L p s n g m ts lt le = go (p n ts) (g.at ts lt)
   where
-  go : (r : Outcome S A) → GoodFor L p s ts r → UpTo m r
-  go (Ok x) t = omega (arith, ap length t.split, length-append t.taken x.1)
-  go (Err k) t = omega (arith, ap length t.split, length-append t.taken t.rest, t.left)
+    go : (r : Outcome S A) → GoodFor L p s ts r → UpTo m r
+    go (Ok x) t = omega (arith, ap length t.split, length-append t.taken x.1)
+    go (Err k) t = omega (arith, ap length t.split, length-append t.taken t.rest, t.left)
 
 pub bind_up : {S A B : Type 0} (m : ℕ) (r : Outcome S A) (q : A → Parser S B) → UpTo m r → ((x : A) (ts : List S) → length ts ≤ m → UpTo m (q x ts)) → UpTo m (and_then r q)
 bind_up m (Ok x) q u f = f x.0 x.1 u

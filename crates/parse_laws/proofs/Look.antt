@@ -1,8 +1,8 @@
 -- A choice by a test that looks over names at what follows them: each answer of either side comes only behind the names.
-use Rattle.std.proofs.Common.{◌≡◌, ℕ, zero, suc, ◌≤◌, ◌<◌, ◌+◌, Bool, true, false, cond, List, [], ◌∷◌, ◌++◌, length, Result, Ok, Err, Option, Some, None, refl, sym, ap, subst, ◌∙◌, append_assoc, arith}
-use Rattle.std.proofs.lemmas.List.{append-nil, length-append}
-use Rattle.parse_laws.specs.Parser.{Outcome, Parser, and_then, ◌>>=◌, next_is}
-use Rattle.parse_laws.proofs.Good.{Language, Family, Good, GoodFor, Took, Refused, Agree, agree_behind, UpTo}
+use Rattle.std.proofs.Common.{◌≡◌, ℕ, ◌≤◌, ◌<◌, ◌+◌, Bool, true, false, cond, List, [], ◌∷◌, ◌++◌, length, Ok, Err, refl, sym, ap, subst, ◌∙◌, append_assoc, arith}
+use Rattle.std.proofs.lemmas.List.{length-append}
+use Rattle.parse_laws.specs.Parser.{Outcome, next_is}
+use Rattle.parse_laws.proofs.Good.{Language, Family, Good, GoodFor, Agree, agree_behind, UpTo}
 
 -- names in front of other tokens
 abbrev pub lined : {S B : Type 0} → (B → S) → List B → List S → List S
@@ -28,13 +28,14 @@ pub led : {S B : Type 0} (test : S → Bool) (name : B → S) → ((s : S) → t
 led test name whole [] = record { names = []; after = []; split = refl; stops = refl }
 led {S = S} {B = B} test name whole (t ∷ ts) = go (led test name whole ts) (test t) refl
   where
-  go : Led test name ts → (b : Bool) → test t ≡ b → Led test name (t ∷ ts)
-  go more true e = let w = whole t e in record {
-    names = w.0 ∷ more.names; after = more.after;
-    split = λ i. w.1 i ∷ more.split i;
-    stops = more.stops;
-  }
-  go more false e = record { names = []; after = t ∷ ts; split = refl; stops = e }
+    go : Led test name ts → (b : Bool) → test t ≡ b → Led test name (t ∷ ts)
+    go more true e = let w = whole t e in record {
+      names = w.0 ∷ more.names;
+      after = more.after;
+      split = λ i. w.1 i ∷ more.split i;
+      stops = more.stops;
+    }
+    go more false e = record { names = []; after = t ∷ ts; split = refl; stops = e }
 
 -- the longer end of a list has the shorter
 record Longer {S : Type 0} (c rest d u : List S) : Type 0 where
@@ -83,8 +84,8 @@ module _ {S A B : Type 0} (test : S → Bool) (name : B → S) (whole : (s : S) 
       → Good L look s n
   look_good gp gq ep eq = record { at = λ ts lt. go ts lt (led test name whole ts) (ahead ts) refl; word = gq.word }
     where
-    go : (ts : List S) → length ts < s + n → (l : Led test name ts) → (b : Bool) → ahead ts ≡ b → GoodFor L look s ts (cond b (p n ts) (q n ts))
-    go ts lt l true e = first ts l e (p n ts) (gp.at ts lt)
-        (subst (λ (y : List S). UpTo (length l.after) (p n y)) (sym l.split) (ep l.names l.after l.stops (subst (λ (y : List S). length y < s + n) l.split lt) (ap ahead (sym l.split) ∙ e)))
-    go ts lt l false e = second ts l e (q n ts) (gq.at ts lt)
-        (subst (λ (y : List S). UpTo (length l.after) (q n y)) (sym l.split) (eq l.names l.after l.stops (subst (λ (y : List S). length y < s + n) l.split lt) (ap ahead (sym l.split) ∙ e)))
+      go : (ts : List S) → length ts < s + n → (l : Led test name ts) → (b : Bool) → ahead ts ≡ b → GoodFor L look s ts (cond b (p n ts) (q n ts))
+      go ts lt l true e = first ts l e (p n ts) (gp.at ts lt)
+          (subst (λ (y : List S). UpTo (length l.after) (p n y)) (sym l.split) (ep l.names l.after l.stops (subst (λ (y : List S). length y < s + n) l.split lt) (ap ahead (sym l.split) ∙ e)))
+      go ts lt l false e = second ts l e (q n ts) (gq.at ts lt)
+          (subst (λ (y : List S). UpTo (length l.after) (q n y)) (sym l.split) (eq l.names l.after l.stops (subst (λ (y : List S). length y < s + n) l.split lt) (ap ahead (sym l.split) ∙ e)))

@@ -1,5 +1,5 @@
 -- Parsers as functions on lists of tokens: a value with the tokens that are left, or a refusal with the number of those from the refused one on.
-use Rattle.std.specs.Prelude.{ℕ, zero, suc, Bool, true, false, if◌then◌else◌, List, [], ◌∷◌, ◌++◌, length, Option, Some, None, Result, Ok, Err}
+use Rattle.std.specs.Prelude.{ℕ, zero, suc, Bool, false, if◌then◌else◌, List, [], ◌∷◌, ◌++◌, length, Option, Some, None, Result, Ok, Err}
 
 abbrev pub Outcome : Type 0 → Type 0 → Type 0
 Outcome S A = Result (A × List S) ℕ

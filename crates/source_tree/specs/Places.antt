@@ -1,8 +1,5 @@
 -- The place of a tree, and the place from one to another.
-use Rattle.el_outside.specs.declared.place.Span.{Span}
-use Rattle.el_outside.specs.declared.place.Pos.{Pos}
 use Rattle.source_tree.specs.declared.place.Place.{Place}
-use Rattle.source_tree.specs.declared.place.Name.{Name}
 use Rattle.source_tree.specs.declared.expr.Expr.{Expr, out-Expr}
 use Rattle.source_tree.specs.declared.expr.Arg.{Arg, out-Arg}
 use Rattle.source_tree.specs.declared.expr.Binder.{Binder, out-Binder}

@@ -1,4 +1,4 @@
-use Rattle.std.proofs.Common.{◌≡◌, ap, refl, rules, arith}
+use Rattle.std.proofs.Common.{◌≡◌, refl, rules, arith}
 use Rattle.std.proofs.lemmas.Grind.{common_steps}
 use Rattle.agda_parser.specs.Syntax.{expr, one_typed, more_typed, one_field, more_fields, one_arg, args, one_binder, binders}
 use Rattle.parse_laws.specs.Parser.{many_from}

@@ -1,4 +1,4 @@
-use Rattle.std.proofs.Common.{◌≡◌, ◌≤◌, ◌<◌, ◌+◌, arith, rules}
+use Rattle.std.proofs.Common.{◌≡◌, ◌<◌, arith}
 use Rattle.std.proofs.lemmas.Grind.{common_steps}
 use Rattle.agda_parser.proofs.Whole.{deep_ok, deep_end, deep_within, deep_err}
 use Rattle.agda_parser.proofs.one_expr.refuse_front.Goals as goal
