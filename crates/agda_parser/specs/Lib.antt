@@ -1,0 +1,10 @@
+pub mod Signs
+pub mod Names
+pub mod Trees
+pub mod Grammar
+pub mod Syntax
+pub mod Nesting
+pub mod Reading
+pub mod NestingView
+pub mod Tokens
+pub mod Depths

@@ -1,0 +1,24 @@
+//! Reads the syntax tree of an expression from its tokens, by descent: what the grammar allows, and nothing else, and where it
+//! does not, the first token with which no text of the grammar begins so.
+#![tactic(auto)]
+
+mod bracket;
+mod cursor;
+mod error;
+mod exprs;
+mod form;
+pub mod laws;
+mod name;
+mod names;
+mod nesting;
+mod one_expr;
+mod quantifier;
+mod refuse;
+mod sign;
+mod stop;
+#[cfg(test)]
+mod tests;
+mod token;
+
+pub use error::{ParseError, ParseKind};
+pub use one_expr::parse_expr;

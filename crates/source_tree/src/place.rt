@@ -1,0 +1,34 @@
+ghost use Rattle.std.specs.Prelude.{◌≡◌};
+
+use el_outside::{Pos, Span, Text};
+
+/// Where a part of a tree stands: its bytes in the text, and the line and the column at which errors about it are shown.
+#[derive(Clone, Copy, Debug, PartialEq, Eq)]
+pub struct Place {
+    pub span: Span,
+    pub pos: Pos,
+}
+
+impl Place {
+    ghost use Rattle.source_tree.specs.Places.{joined};
+
+    /// The place from the beginning of this one to the end of `last`.
+    pub fn to(self, last: Place) -> Place
+        ensures { result ≡ joined self last }
+    {
+        Place {
+            span: Span {
+                start: self.span.start,
+                end: last.span.end,
+            },
+            pos: self.pos,
+        }
+    }
+}
+
+/// A name, or a qualified name with its dot, as the text has it.
+#[derive(Debug, Drop)]
+pub struct Name {
+    pub text: Text,
+    pub place: Place,
+}
