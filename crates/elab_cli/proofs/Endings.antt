@@ -8,13 +8,12 @@ use Rattle.std.specs.FinMap.{get}
 use Rattle.std.specs.Io.KnownBytes.{Appends}
 use Rattle.el_outside.specs.Stored.{FileMap, Gives}
 use Rattle.el_outside.specs.declared.files.FileRead.TheVariants as read
-use Rattle.elab_cli.specs.Form.{Reads, limit}
+use Rattle.elab_cli.specs.Form.{Line, Reads, limit}
 use Rattle.elab_cli.specs.Load.{HasVerdict}
-use Rattle.elab_cli.specs.declared.written.Line.{Line}
 use Rattle.elab_cli.specs.Said.{Tells}
 use Rattle.elab_cli.specs.Transcript.{IsJudged, CheckAnswers, AppendsPart, bytes_of, status_of}
-use Rattle.elab_cli.specs.declared.load.Verdict.{Verdict}
-use Rattle.elab_cli.specs.declared.load.Verdict.TheVariants.{Unsupported, Refused, Complete}
+use Rattle.elab_cli.specs.declared.verdict.Verdict.{Verdict}
+use Rattle.elab_cli.specs.declared.verdict.Verdict.TheVariants.{Unsupported, Refused, Complete}
 use Rattle.elab_cli.specs.declared.status.Status.{Status}
 use Rattle.elab_cli.specs.declared.status.Status.TheVariants as status
 

@@ -1,7 +1,8 @@
 -- What a text's tokens say of the text.
-use Rattle.std.proofs.Common.{◌≡◌, ◌≤◌, ℕ, List, [], ◌∷◌, length, None, Some, Ok, Err, sym, ap, subst, arith}
+use Rattle.std.proofs.Common.{Bool, false, refl, ◌≡◌, ◌≤◌, ℕ, List, [], ◌∷◌, length, None, Some, Ok, Err, sym, ap, subst, arith}
 use Rattle.std.specs.declared.option.Option.{Option}
 use Rattle.std.proofs.lemmas.List.Elements.{recursion_from_All}
+use Rattle.std.specs.Prelude.{is_some}
 use Rattle.std.specs.List.{AllByRecursion}
 use Rattle.std.specs.Str.{IsUtf8}
 use Rattle.el_outside.specs.declared.Pos.{Pos}
@@ -12,11 +13,12 @@ use Rattle.agda_lexer.specs.Tokens.{Placed, lex_of, cut_of, outcome, tokens_of, 
 use Rattle.agda_lexer.specs.Laws as laws
 use Rattle.agda_lexer.specs.Laws.{Rise, tokens_up_to_fault}
 use Rattle.agda_lexer.proofs.Walks.{spans_rise, on_borders}
-use Rattle.elab_cli.specs.declared.written.Line.{Line}
 use Rattle.elab_cli.specs.Borders.{IsOnBorders}
-use Rattle.elab_cli.specs.Form.{IsFile, Reads, limit}
-use Rattle.elab_cli.specs.Judged.{IsCount}
-use Rattle.elab_cli.specs.Load.{IsComplete}
+use Rattle.elab_cli.specs.Form.{Line, IsFile, Reads, limit}
+use Rattle.elab_cli.specs.Judged.{JudgesFile}
+use Rattle.elab_cli.specs.Load.{HasVerdict}
+use Rattle.elab_cli.specs.declared.verdict.Verdict.{Verdict}
+use Rattle.elab_cli.specs.declared.verdict.Verdict.TheVariants.{Unsupported, Refused, Complete}
 use Rattle.elab_cli.proofs.Accepted.{signature_derivable}
 
 tokens_in : (ps : List Placed) (fault : Option (Pos × LexKind)) (l : Lexed) → outcome ps fault ≡ Ok l → l.tokens ≡ tokens_of ps
@@ -51,5 +53,19 @@ no_file text l is none ls r = none ls (subst (λ (x : Lexed). IsFile text x.toke
 pub reads : (text : List ℕ) (l : Lexed) (ls : List Line) → length text ≤ limit → IsUtf8 text → lex_of text ≡ Ok l → l.comment ≡ None → IsFile text l.tokens ls → Reads text ls
 reads text l ls short utf8 is plain file = record { short = short; utf8 = utf8; lexed = l; lexes = is; plain = plain; file = file }
 
-pub accepted : (text : List ℕ) (ls : List Line) (n : ℕ) → Reads text ls → IsCount ls n → IsComplete text n
-accepted text ls n r k = record { lines = ls; reads = r; signature = k.signature; loads = k.loads; declarations = k.declarations; derivable = signature_derivable ls k.signature k.loads }
+pub none_of : (o : Option Pos) (b : Bool) → b ≡ is_some o → b ≡ false → o ≡ None
+none_of None b e h = refl
+none_of (Some p) b e h = cc (e, h)
+
+-- what is said of the tokens is said of the text
+pub verdict_of : (text : List ℕ) (l : Lexed) (v : Verdict) → length text ≤ limit → IsUtf8 text → lex_of text ≡ Ok l → l.comment ≡ None → JudgesFile text l.tokens v → HasVerdict text v
+verdict_of text l Unsupported short utf8 is plain j = no_file text l is j
+verdict_of text l Refused short utf8 is plain j = record { lines = j.lines; reads = reads text l j.lines short utf8 is plain j.are; refuses = j.refuses }
+verdict_of text l (Complete n) short utf8 is plain j = record {
+  lines = j.lines;
+  reads = reads text l j.lines short utf8 is plain j.are;
+  signature = j.signature;
+  loads = j.loads;
+  declarations = j.declarations;
+  derivable = signature_derivable j.lines j.signature j.loads;
+}

@@ -3,11 +3,10 @@ use Rattle.std.specs.Prelude.{◌≡◌, ℕ, List, length, Some, None}
 use Rattle.core_rules.specs.Term.{Term}
 use Rattle.core_rules.specs.Signature.{Signature}
 use Rattle.core_rules.specs.Derivable.{Derivable}
-use Rattle.elab_cli.specs.Form.{Reads}
+use Rattle.elab_cli.specs.Form.{Line, Reads}
 use Rattle.elab_cli.specs.Accept.{signature_of}
-use Rattle.elab_cli.specs.declared.written.Line.{Line}
-use Rattle.elab_cli.specs.declared.load.Verdict.{Verdict}
-use Rattle.elab_cli.specs.declared.load.Verdict.TheVariants.{Unsupported, Refused, Complete}
+use Rattle.elab_cli.specs.declared.verdict.Verdict.{Verdict}
+use Rattle.elab_cli.specs.declared.verdict.Verdict.TheVariants.{Unsupported, Refused, Complete}
 
 -- the text is of the form, and a name or a type of it is refused
 pub record IsRefused (text : List ℕ) : Type 0 where

@@ -3,7 +3,7 @@ use Rattle.std.specs.Prelude.{◌≡◌, ◌⊎◌, ℕ, List, []}
 use Rattle.std.specs.declared.option.Option.{Option}
 use Rattle.std.specs.Io.KnownBytes.{Appends}
 use Rattle.elab_cli.specs.Transcript.{AppendsPart, bytes_of, status_of}
-use Rattle.elab_cli.specs.declared.load.Verdict.{Verdict}
+use Rattle.elab_cli.specs.declared.verdict.Verdict.{Verdict}
 use Rattle.elab_cli.specs.declared.program.Said.{Said}
 use Rattle.elab_cli.specs.declared.program.Said.TheVariants.{All, Failed, NoMemory}
 use Rattle.elab_cli.specs.declared.status.Status.{Status}

@@ -9,8 +9,8 @@ use Rattle.el_outside.specs.Stored.{FileMap}
 use Rattle.elab_cli.specs.declared.words.Ask.{Ask}
 use Rattle.elab_cli.specs.declared.words.Ask.TheVariants.{Wrong, Check}
 use Rattle.elab_cli.specs.Load.{HasVerdict}
-use Rattle.elab_cli.specs.declared.load.Verdict.{Verdict}
-use Rattle.elab_cli.specs.declared.load.Verdict.TheVariants.{Unsupported, Refused, Complete}
+use Rattle.elab_cli.specs.declared.verdict.Verdict.{Verdict}
+use Rattle.elab_cli.specs.declared.verdict.Verdict.TheVariants.{Unsupported, Refused, Complete}
 use Rattle.elab_cli.specs.declared.status.Status.{Status}
 use Rattle.elab_cli.specs.declared.status.Status.TheVariants.{Done, Open, FileError, Usage, FilesFault, InputFault, OutputFault, NoMemory, InputTooLong, Missing}
 

@@ -1,128 +1,82 @@
-ghost use Rattle.std.specs.Prelude.{◌≡◌, ◌<◌, ℕ, List, [], ◌∷◌, ◌++◌, length, Some, None, IfOk, OnOk, IsErrOf, MatchOption, is_some};
-ghost use Rattle.core_rules.specs.Term.{Term};
-ghost use Rattle.core_rules.specs.Signature.{Signature};
-ghost use Rattle.core_rules.specs.InScope.{InScope, any_meta};
-ghost use Rattle.core_terms.specs.Pool.{Extends, tree};
-ghost use Rattle.core_terms.specs.Signature.{Stands, signature_in};
-ghost use Rattle.elab_cli.specs.Accept.{resolved, sort_level, level_of, with_line, signature_of};
-ghost use Rattle.elab_cli.specs.Judged.{Agrees, IsResolved, IsCount, declared};
+ghost use Rattle.std.specs.Prelude.{◌≡◌, ◌≢◌, [], IfOk, OnOk, true, false, None, length};
+ghost use Rattle.std.specs.List.{AllByRecursion};
+ghost use Rattle.elab_cli.specs.Borders.{IsOnBorders};
+ghost use Rattle.elab_cli.specs.Accept.{with_named};
+ghost use Rattle.elab_cli.specs.Readings.{ForWithin, term_in};
+ghost use Rattle.elab_cli.specs.Judged.{Agrees, IsDeclared, JudgesLines, JudgesFile, declared};
 
-use crate::globals::Globals;
-use crate::written::{Line, Written};
-use core_terms::{CoreDecl, Names, NoMemory, Node, Signature, TermId, TermPool};
+use crate::core::Core;
+use crate::declare::declare;
+use crate::lines::{Declaration, read_declaration, split_line};
+use crate::signs::{Sign, sign_at};
+use crate::verdict::Verdict;
+use agda_lexer::Token;
+use core_terms::NoMemory;
 use std::alloc::Global;
 
-/// The term that a type is, once its names are resolved. The answer is None where a name is not in
-/// scope.
-fn resolve(pool: &mut TermPool, globals: &Globals, ty: &Written) -> Result<Option<TermId>, NoMemory>
-    ensures extends { Extends pool.old pool.new }
-    ensures is { IfOk result (λ o. MatchOption o (resolved globals.now ty.now ≡ None) (λ t. IsResolved globals.now ty.now pool.new t)) }
+/// Declares what was read, unless something was refused before. The answer says whether all is
+/// accepted.
+fn accept(core: &mut Core, accepted: bool, declaration: &Declaration) -> Result<bool, NoMemory>
+    requires agrees { accepted ≡ true → Agrees core.old }
+    requires within { ForWithin core.old.pool declaration.now.ty }
+    ensures locals { OnOk result (core.new.locals ≡ core.old.locals) }
+    ensures accepted { result ≡ Ok true → (accepted ≡ true) × IsDeclared core.old core.new declaration.now.name.now (term_in core.old.pool declaration.now.ty) }
+    ensures refused { result ≡ Ok false → accepted ≡ true → with_named (length core.old.names) core.old.globals (declared core.old) declaration.now.name.now (term_in core.old.pool declaration.now.ty) ≡ None }
 {
-    match ty {
-        Written::Set => {
-            let set = pool.add(Node::Sort(0))?;
-            Ok(Some(set))
+    if !accepted {
+        return Ok(false);
+    }
+    declare(core, declaration.name, declaration.ty)
+}
+
+/// Reads and judges the declarations below the first line. A text that is not of the form is so
+/// whatever was refused before.
+fn judge_lines(alloc: Global, text: &str, below: &[Token]) -> Result<Verdict, NoMemory>
+    requires borders { AllByRecursion (IsOnBorders text.now) below.now }
+    ensures { IfOk result (λ v. JudgesLines text.now below.now v) }
+{
+    let mut core = Core::new(alloc)?;
+    let mut accepted = true;
+    let mut last = 1;
+    let mut rest = below;
+    while !rest.is_empty() {
+        let Some((first, others)) = rest.split_first() else {
+            return Ok(Verdict::Unsupported);
+        };
+        let line = first.pos.line;
+        if line <= last {
+            return Ok(Verdict::Unsupported);
         }
-        Written::Name(name) => {
-            let Some(global) = globals.find(name.as_str()) else {
-                return Ok(None);
-            };
-            let def = pool.add(Node::Def(global))?;
-            Ok(Some(def))
+        let (on, more) = split_line(others, line);
+        match read_declaration(&mut core, text, first, on) {
+            Ok(Some(declaration)) => {
+                accepted = accept(&mut core, accepted, &declaration)?;
+            }
+            Ok(None) => return Ok(Verdict::Unsupported),
+            Err(NoMemory) => return Err(NoMemory),
         }
+        last = line;
+        rest = more;
     }
-}
-
-fn is_sort(pool: &TermPool, t: TermId) -> bool
-    requires { t < length pool.now.trees }
-    ensures { result ≡ is_some (sort_level (tree pool.now t)) }
-{
-    matches!(pool.node(t), Node::Sort(_))
-}
-
-/// Whether a term is a type over the signature.
-fn is_type(pool: &TermPool, signature: &Signature, t: TermId) -> bool
-    requires within { t < length pool.now.trees }
-    requires stands { Stands pool.now signature.now }
-    requires scope { InScope signature.now any_meta 0 (tree pool.now t) }
-    ensures { result ≡ is_some (level_of (signature_in pool.now signature.now) (tree pool.now t)) }
-{
-    match pool.node(t) {
-        Node::Sort(_) => true,
-        Node::Def(f) => is_sort(pool, signature.def(f).ty),
-        _ => false,
+    if !accepted {
+        return Ok(Verdict::Refused);
     }
+    Ok(Verdict::Complete(core.signature.defs()))
 }
 
-/// Why a declaration is not accepted.
-#[derive(Clone, Copy, Debug, PartialEq, Eq)]
-pub enum JudgeError {
-    /// Its name is not new, its type has a name that is not in scope, or its type is no type.
-    Refused,
-    NoMemory,
-}
-
-impl From<NoMemory> for JudgeError {
-    ghost use Rattle.std.specs.Prelude.{◌≡◌};
-    ghost use Rattle.elab_cli.specs.declared.judge.JudgeError.TheVariants as error;
-
-    ghost from_gives = { λ _ e. e ≡ error.NoMemory };
-
-    fn from(_: NoMemory) -> JudgeError {
-        JudgeError::NoMemory
-    }
-}
-
-/// What was declared so far.
-#[derive(Drop)]
-struct Core {
-    globals: Globals,
-    names: Names,
-    pool: TermPool,
-    signature: Signature,
-}
-
-/// Declares a postulate, where its name is new and its type is a type.
-fn declare(core: &mut Core, line: &Line) -> Result<(), JudgeError>
-    requires { Agrees core.old }
-    ensures ok { OnOk result (Agrees core.new) }
-    ensures names { OnOk result (core.new.globals ≡ core.old.globals ++ line.now.name ∷ []) }
-    ensures accepted { OnOk result (with_line core.old.globals (declared core.old) line.now ≡ Some (declared core.new)) }
-    ensures refused { IsErrOf result JudgeError.Refused → with_line core.old.globals (declared core.old) line.now ≡ None }
+/// Reads and judges the declarations of a text from its tokens.
+pub fn judge(alloc: Global, text: &str, tokens: &[Token]) -> Result<Verdict, NoMemory>
+    requires { AllByRecursion (IsOnBorders text.now) tokens.now }
+    ensures { IfOk result (λ v. JudgesFile text.now tokens.now v) }
 {
-    let text = line.name.as_str();
-    let None = core.globals.find(text) else {
-        return Err(JudgeError::Refused);
+    let Some((first, below)) = tokens.split_first() else {
+        return Ok(Verdict::Unsupported);
     };
-    let Some(ty) = resolve(&mut core.pool, &core.globals, &line.ty)? else {
-        return Err(JudgeError::Refused);
+    let Sign::Postulate = sign_at(text, first) else {
+        return Ok(Verdict::Unsupported);
     };
-    if !is_type(&core.pool, &core.signature, ty) {
-        return Err(JudgeError::Refused);
+    if first.pos.line != 1 || first.pos.col != 1 || below.is_empty() {
+        return Ok(Verdict::Unsupported);
     }
-    let name = core.names.add(text)?;
-    core.globals.declare(text)?;
-    core.signature.add(&CoreDecl::Postulate { name, ty })?;
-    Ok(())
-}
-
-/// Judges the declarations of a text in their order. The answer is their number, or None where one
-/// of them is refused.
-pub fn judge(alloc: Global, lines: &[Line]) -> Result<Option<u32>, NoMemory>
-    ensures { IfOk result (λ o. MatchOption o (signature_of lines.now ≡ None) (λ n. IsCount lines.now n)) }
-{
-    let mut core = Core {
-        globals: Globals::new(alloc),
-        names: Names::new(alloc)?,
-        pool: TermPool::new(alloc)?,
-        signature: Signature::new(alloc)?,
-    };
-    for line in lines {
-        match declare(&mut core, line) {
-            Ok(()) => {}
-            Err(JudgeError::Refused) => return Ok(None),
-            Err(JudgeError::NoMemory) => return Err(NoMemory),
-        }
-    }
-    Ok(Some(core.signature.defs()))
+    judge_lines(alloc, text, below)
 }

@@ -1,8 +1,7 @@
 //! What is so of every text. Each law is the contract of a function that does nothing.
 ghost use Rattle.std.specs.Prelude.{◌≡◌, ℕ, List};
-ghost use Rattle.elab_cli.specs.declared.written.Line.{Line};
-ghost use Rattle.elab_cli.specs.declared.load.Verdict.{Verdict};
-ghost use Rattle.elab_cli.specs.Form.{Reads};
+ghost use Rattle.elab_cli.specs.declared.verdict.Verdict.{Verdict};
+ghost use Rattle.elab_cli.specs.Form.{Line, Reads};
 ghost use Rattle.elab_cli.specs.Load.{HasVerdict};
 
 /// A text is read in one way at most.

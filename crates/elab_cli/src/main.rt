@@ -2,14 +2,21 @@
 //! written and how the program ends, by the words, the files and the text.
 #![tactic(auto)]
 
+mod core;
+mod declare;
+mod elaborate;
 mod globals;
+mod infer;
 mod judge;
 pub mod laws;
+mod lines;
 mod load;
 mod program;
+mod same;
+mod signs;
 mod status;
+mod verdict;
 mod words;
-mod written;
 
 use el_outside::{RealFiles, RealSink, RealSource};
 pub use program::run;

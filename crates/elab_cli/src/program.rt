@@ -6,7 +6,8 @@ ghost use Rattle.elab_cli.specs.Transcript.{Answers, AppendsPart, Caused, CheckA
 ghost use Rattle.elab_cli.specs.Said.{HasSaid, Tells};
 
 use crate::Status;
-use crate::load::{Verdict, load};
+use crate::load::load;
+use crate::verdict::Verdict;
 use crate::words::{Ask, read_words};
 use el_outside::{FileRead, Files, PutError, Sink, Source};
 use std::alloc::Global;

@@ -11,6 +11,15 @@ const COMPLETE_1: &str =
 const COMPLETE_2: &str =
     "complete declarations=2 inserted=0 goals=0 unsolved=0 suspended=0 shadowed=0\n";
 
+const COMPLETE_3: &str =
+    "complete declarations=3 inserted=0 goals=0 unsolved=0 suspended=0 shadowed=0\n";
+
+const COMPLETE_4: &str =
+    "complete declarations=4 inserted=0 goals=0 unsolved=0 suspended=0 shadowed=0\n";
+
+const COMPLETE_5: &str =
+    "complete declarations=5 inserted=0 goals=0 unsolved=0 suspended=0 shadowed=0\n";
+
 const REFUSED: &str = "error 1:1 Refused\n";
 
 const UNSUPPORTED: &str = "error 1:1 Unsupported\n";
@@ -65,7 +74,7 @@ fn outcome(
 #[test]
 fn each_text_has_its_answer(rt: HostRuntime) -> Result<(), Fail> {
     let alloc = rt.alloc();
-    let rows: [(&str, &str); 24] = [
+    let rows: [(&str, &str); 42] = [
         ("postulate\n  Nat : Set\n  z : Nat\n", COMPLETE_2),
         ("postulate\n  A : Set\n  x : B\n", REFUSED),
         ("postulate\n  z : Nat\n  Nat : Set\n", REFUSED),
@@ -90,7 +99,56 @@ fn each_text_has_its_answer(rt: HostRuntime) -> Result<(), Fail> {
         ("postulate\n  A : Set -- a comment\n", UNSUPPORTED),
         ("postulate\n  A : Set  B : Set\n", UNSUPPORTED),
         ("postulate\n  A : Set\npostulate\n  B : Set\n", UNSUPPORTED),
-        ("postulate\n  f : Set → Set\n", UNSUPPORTED),
+        (
+            "postulate\n  Nat : Set\n  z : Nat\n  P : Nat → Set\n  w : (n : Nat) → P n\n  y : P z\n",
+            COMPLETE_5,
+        ),
+        ("postulate\n  F : Set → Set\n  x : F Set\n", REFUSED),
+        (
+            "postulate\n  A : Set\n  f : (A → A) → A\n  B : (A → A → A) → Set\n  g : (h : A -> A -> A) -> B h\n",
+            COMPLETE_4,
+        ),
+        (
+            "postulate\n  A : Set\n  f : (A → A) → A\n  B : (A → A → A) → Set\n  g : (h : A -> A -> A) -> B (h)\n",
+            COMPLETE_4,
+        ),
+        (
+            "postulate\n  A : Set\n  f : (A → A) → A\n  B : (A → A → A) → Set\n  g : (h : A -> A -> A) -> B ((h))\n",
+            COMPLETE_4,
+        ),
+        ("postulate\n  A : Set\n  f : A → A\n  x : f A\n", REFUSED),
+        (
+            "postulate\n  A : Set\n  P : A → Set\n  q : (A : A) → P A\n",
+            COMPLETE_3,
+        ),
+        (
+            "postulate\n  A : Set\n  F : Set → Set\n  x : F (Set → A)\n",
+            REFUSED,
+        ),
+        (
+            "postulate\n  A : Set\n  F : Set → Set\n  x : F (A → A)\n",
+            COMPLETE_3,
+        ),
+        (
+            "postulate\n  A : Set\n  P : Set → Set\n  R : (g : (x : A) → A) → Set\n  Q : (((y : A) → A) → Set) → Set\n  t : Q R\n",
+            COMPLETE_5,
+        ),
+        (
+            "postulate\n  P : (A : Set) → A → Set\n  B : Set\n  b : B\n  y : P B b\n",
+            COMPLETE_4,
+        ),
+        (
+            "postulate\n  P : (A : Set) → A → Set\n  B : Set\n  b : B\n  y : P B b\n  z : P b B\n",
+            REFUSED,
+        ),
+        ("postulate\n  A : Set\n  f : A →A\n", REFUSED),
+        ("postulate\n  F : Set → Set1\n", UNSUPPORTED),
+        // What is behind a refused line is still read.
+        ("postulate\n  x : B\n  y : (\n", UNSUPPORTED),
+        ("postulate\n  A : Set\n  B : A →\n", UNSUPPORTED),
+        ("postulate\n  A : (A : Set)\n", UNSUPPORTED),
+        ("postulate\n  F : Set → Set\n", COMPLETE_1),
+        ("postulate\n  A : Set\n    → Set\n", UNSUPPORTED),
     ];
     for (text, answer) in rows {
         let (status, bytes) = outcome(alloc, text.as_bytes(), ["check", "a"].as_slice(), &SOUND)?;
@@ -101,6 +159,62 @@ fn each_text_has_its_answer(rt: HostRuntime) -> Result<(), Fail> {
             Status::FileError
         };
         assert_eq!(rt; status, meant, "at {text:?}");
+    }
+    Ok(())
+}
+
+/// The front of a text, a part so many times, a middle, another part so many times, and a line feed.
+fn nested(
+    alloc: Global,
+    front: &str,
+    opening: &str,
+    middle: &str,
+    closing: &str,
+    times: u32,
+) -> Result<String, NoMemory> {
+    let mut text = String::from_str(alloc, front)?;
+    for _ in 0..times {
+        text.push_str(opening)?;
+    }
+    text.push_str(middle)?;
+    for _ in 0..times {
+        text.push_str(closing)?;
+    }
+    text.push_str("\n")?;
+    Ok(text)
+}
+
+#[test]
+fn types_may_be_nested_200_deep(rt: HostRuntime) -> Result<(), Fail> {
+    let alloc = rt.alloc();
+    let rows: [(&str, &str, &str, &str, u32, &str); 4] = [
+        ("postulate\n  x : ", "(", "Set", ")", 200, COMPLETE_1),
+        ("postulate\n  x : ", "(", "Set", ")", 201, UNSUPPORTED),
+        (
+            "postulate\n  A : Set\n  f : ",
+            "A → ",
+            "A",
+            "",
+            200,
+            COMPLETE_2,
+        ),
+        (
+            "postulate\n  A : Set\n  f : ",
+            "A → ",
+            "A",
+            "",
+            201,
+            UNSUPPORTED,
+        ),
+    ];
+    for (front, opening, middle, closing, times, answer) in rows {
+        let text = nested(alloc, front, opening, middle, closing, times)?;
+        let (_, bytes) = outcome(alloc, text.as_bytes(), ["check", "a"].as_slice(), &SOUND)?;
+        assert_eq!(rt;
+            bytes.as_slice(),
+            answer.as_bytes(),
+            "{times} times {opening:?}"
+        );
     }
     Ok(())
 }

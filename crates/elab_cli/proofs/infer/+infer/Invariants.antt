@@ -1,0 +1,33 @@
+use Rattle.std.proofs.Common.{◌≡◌, ◌≤◌, ◌+◌, ◌*◌, max, length}
+use Rattle.std.specs.List.{AllByRecursion}
+use Rattle.core_terms.specs.Pool.{Extends}
+use Rattle.elab_cli.specs.Same.{IsOf}
+use Rattle.elab_cli.proofs.Inferring.{IsReading}
+use Rattle.elab_cli.proofs.infer.+infer.Given as goal
+
+abbrev pub decreases-level_of_term : goal.decreases-level_of_term
+decreases-level_of_term l = 5 * l.t + 1
+
+abbrev pub decreases-level_under : goal.decreases-level_under
+decreases-level_under l = 5 * l.t + 2
+
+abbrev pub decreases-type_at : goal.decreases-type_at
+decreases-type_at l = 5 * l.argument.term + 1
+
+abbrev pub decreases-type_of_application : goal.decreases-type_of_application
+decreases-type_of_application l = 5 * max l.fun l.argument.term + 2
+
+abbrev pub decreases-type_of_term : goal.decreases-type_of_term
+decreases-type_of_term l = 5 * l.t
+
+abbrev pub invariant-type_of_application-loop-next : goal.invariant-type_of_application-loop-next
+invariant-type_of_application-loop-next l = record {
+  extends : Extends l.fn.pool l.pool;
+  same : IsOf l.same l.pool;
+  context : l.context.items ≡ l.fn.context.items;
+  bound : AllByRecursion (λ a. a.term ≤ max l.fn.fun l.fn.argument.term) l.arguments.items;
+  reading : IsReading l.fn.pool l.fn.signature l.fn.context.items l.fn.fun l.fn.argument l.pool l.ty l.arguments.items;
+}
+
+abbrev pub decreases-type_of_application-loop-next : goal.decreases-type_of_application-loop-next
+decreases-type_of_application-loop-next l = length l.arguments.items
