@@ -5,7 +5,7 @@ use Rattle.std.specs.Prelude.{string_bytes}
 use Rattle.agda_lexer.specs.declared.Token.{Token}
 use Rattle.core_terms.specs.Pool.{Pool, Extends}
 use Rattle.core_terms.specs.Growth.{Extends-trans, Extends-tree, Extends-length}
-use Rattle.elab_cli.specs.declared.core.Core.{Core}
+use Rattle.elab_cli.specs.declared.state.Core.{Core}
 use Rattle.elab_cli.specs.declared.elaborate.Reading.{Reading}
 use Rattle.elab_cli.specs.Words.{Word}
 use Rattle.elab_cli.specs.Accept.{app_of}

@@ -10,7 +10,7 @@ use Rattle.core_rules.specs.Mapped.{decl_map}
 use Rattle.core_terms.specs.Pool.{tree}
 use Rattle.core_terms.specs.Signature.{Stands, signature_in}
 use Rattle.core_terms.proofs.SignatureGrowth.{signature_in-extends, Stands-extends}
-use Rattle.elab_cli.specs.declared.core.Core.{Core}
+use Rattle.elab_cli.specs.declared.state.Core.{Core}
 use Rattle.elab_cli.specs.declared.lines.Declaration.{Declaration}
 use Rattle.elab_cli.specs.Words.{PostulateWord, bytes_of, sign_of, spelled, word_of}
 use Rattle.elab_cli.specs.declared.signs.Sign.TheVariants as sign

@@ -7,7 +7,7 @@ use Rattle.core_rules.specs.Term.{Term}
 use Rattle.core_rules.specs.Signature.{Signature, Postulate}
 use Rattle.core_terms.specs.Pool.{tree, Extends}
 use Rattle.core_terms.specs.Signature.{Stands, signature_in}
-use Rattle.elab_cli.specs.declared.core.Core.{Core}
+use Rattle.elab_cli.specs.declared.state.Core.{Core}
 use Rattle.elab_cli.specs.Accept.{place_of, level_of, with_named}
 use Rattle.elab_cli.specs.Same.{IsOf}
 use Rattle.elab_cli.specs.Judged.{Agrees, IsDeclared, IsPostulate, declared}

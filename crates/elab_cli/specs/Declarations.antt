@@ -2,7 +2,7 @@
 use Rattle.std.specs.Prelude.{◌≡◌, ◌+◌, ℕ, List, [], ◌∷◌, ◌++◌, length}
 use Rattle.std.specs.List.{AllByRecursion}
 use Rattle.agda_lexer.specs.declared.Token.{Token}
-use Rattle.elab_cli.specs.declared.core.Core.{Core}
+use Rattle.elab_cli.specs.declared.state.Core.{Core}
 use Rattle.elab_cli.specs.declared.lines.Declaration.{Declaration}
 use Rattle.elab_cli.specs.Words.{binders}
 use Rattle.elab_cli.specs.Form.{Line, IsLine}

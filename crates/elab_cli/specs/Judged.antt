@@ -5,7 +5,7 @@ use Rattle.core_rules.specs.Term.{Term}
 use Rattle.core_rules.specs.Signature.{Signature, Decl, Postulate, Family, Open, Function}
 use Rattle.core_terms.specs.Signature.{Stands, signature_in}
 use Rattle.agda_lexer.specs.declared.Token.{Token}
-use Rattle.elab_cli.specs.declared.core.Core.{Core}
+use Rattle.elab_cli.specs.declared.state.Core.{Core}
 use Rattle.elab_cli.specs.declared.verdict.Verdict.{Verdict}
 use Rattle.elab_cli.specs.declared.verdict.Verdict.TheVariants.{Unsupported, Refused, Complete}
 use Rattle.elab_cli.specs.Form.{Line, AreLines, IsFile}

@@ -4,7 +4,7 @@ use Rattle.std.specs.List.{AllByRecursion}
 use Rattle.agda_lexer.specs.declared.Token.{Token}
 use Rattle.core_rules.specs.Term.{Term}
 use Rattle.core_terms.specs.Pool.{Pool, tree, Extends}
-use Rattle.elab_cli.specs.declared.core.Core.{Core}
+use Rattle.elab_cli.specs.declared.state.Core.{Core}
 use Rattle.elab_cli.specs.declared.elaborate.Reading.{Reading}
 use Rattle.elab_cli.specs.Borders.{IsOnBorders}
 use Rattle.elab_cli.specs.Words.{Word, CloseWord, ArrowWord, word_of, spelled}

@@ -3,8 +3,8 @@ ghost use Rattle.elab_cli.specs.Accept.{with_named};
 ghost use Rattle.elab_cli.specs.Readings.{ForWithin, term_in};
 ghost use Rattle.elab_cli.specs.Judged.{Agrees, IsDeclared, declared};
 
-use crate::core::Core;
 use crate::infer::is_type;
+use crate::state::Core;
 use core_terms::{CoreDecl, NoMemory, TermId};
 
 /// Declares a postulate, where its name is new and its type is there and is a type. The answer says

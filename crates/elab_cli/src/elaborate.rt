@@ -7,8 +7,8 @@ ghost use Rattle.elab_cli.specs.Elaborate.{begins_atom as begins, binder_of as b
 ghost use Rattle.elab_cli.specs.Readings.{Keeps, Stays, IsGot, IsTerm, IsNext, IsPast, IsBinder, ForWithin, term_in, binders_of, words};
 ghost use Rattle.elab_cli.specs.Readings as spec;
 
-use crate::core::Core;
 use crate::signs::{Sign, sign_at, text_of};
+use crate::state::Core;
 use agda_lexer::Token;
 use core_rules::Flag;
 use core_terms::{NameId, NoMemory, Node, TermId, TermPool};

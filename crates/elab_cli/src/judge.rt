@@ -5,10 +5,10 @@ ghost use Rattle.elab_cli.specs.Accept.{with_named};
 ghost use Rattle.elab_cli.specs.Readings.{ForWithin, term_in};
 ghost use Rattle.elab_cli.specs.Judged.{Agrees, IsDeclared, JudgesLines, JudgesFile, declared};
 
-use crate::core::Core;
 use crate::declare::declare;
 use crate::lines::{Declaration, read_declaration, split_line};
 use crate::signs::{Sign, sign_at};
+use crate::state::Core;
 use crate::verdict::Verdict;
 use agda_lexer::Token;
 use core_terms::NoMemory;

@@ -1,14 +1,14 @@
 ghost use Rattle.std.specs.Prelude.{◌≡◌, [], ◌∷◌, IfOk, MatchOption};
 ghost use Rattle.std.specs.List.{AllByRecursion};
-ghost use Rattle.elab_cli.specs.declared.core.Core.{Core};
+ghost use Rattle.elab_cli.specs.declared.state.Core.{Core};
 ghost use Rattle.elab_cli.specs.Borders.{IsOnBorders};
 ghost use Rattle.elab_cli.specs.Form.{Line, IsLine};
 ghost use Rattle.elab_cli.specs.Readings.{Keeps};
 ghost use Rattle.elab_cli.specs.Declarations.{IsSplit, IsDeclaration};
 
-use crate::core::Core;
 use crate::elaborate::read_type;
 use crate::signs::{Sign, sign_at, text_of};
+use crate::state::Core;
 use agda_lexer::Token;
 use core_terms::{NoMemory, TermId};
 

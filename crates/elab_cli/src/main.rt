@@ -2,7 +2,6 @@
 //! written and how the program ends, by the words, the files and the text.
 #![tactic(auto)]
 
-mod core;
 mod declare;
 mod elaborate;
 mod globals;
@@ -14,6 +13,7 @@ mod load;
 mod program;
 mod same;
 mod signs;
+mod state;
 mod status;
 mod verdict;
 mod words;
