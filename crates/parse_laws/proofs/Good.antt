@@ -1,9 +1,9 @@
 -- What every parser does: what it takes is in its language, what it took before a refusal can be gone on with, and its answer
 -- depends on what it took and on the token after that. A parser is a family over the number of turns that it may make; what is said of it
 -- is said of lists that are short enough for these.
-use Rattle.std.proofs.Common.{◌≡◌, ℕ, ◌≤◌, ◌<◌, ◌+◌, Bool, true, false, cond, List, [], ◌∷◌, ◌++◌, length, Ok, Err, Option, Some, None, refl, sym, ap, subst, ◌∙◌, append_assoc, arith}
-use Rattle.std.proofs.lemmas.List.{length-append}
-use Rattle.parse_laws.specs.Parser.{Outcome, Parser, and_then, ◌>>=◌, pure, given, one, next_is, choose, at_end}
+use Rattle.std.proofs.Common.{◌≡◌, ℕ, zero, suc, ◌≤◌, ◌<◌, ◌+◌, ◌-◌, Bool, take, true, false, cond, List, [], ◌∷◌, ◌++◌, length, Ok, Err, Option, Some, None, refl, sym, ap, subst, ◌∙◌, append_assoc, arith}
+use Rattle.std.proofs.lemmas.List.{append-nil, length-append}
+use Rattle.parse_laws.specs.Parser.{Outcome, Parser, and_then, ◌>>=◌, ◌>>◌, pure, given, one, next_is, choose, taken_for, with_taken, at_end, ended}
 
 -- the same token comes next, or none
 abbrev pub Agree : {S : Type 0} → List S → List S → Type 0
@@ -221,6 +221,58 @@ choose_good {S = S} {A = A} test L p q s n goodp goodq = record { at = λ ts lt.
     go ts lt true e = first ts e (p n ts) (goodp.at ts lt)
     go ts lt false e = second ts e (q n ts) (goodq.at ts lt)
 
+-- a family that makes one turn more than another
+pub deeper_good : {S A : Type 0} (L : Language S A) (level p : Family S A) (n : ℕ) → ((m : ℕ) (ts : List S) → p (suc m) ts ≡ level m ts) → Good L level 1 n → Good L p 0 (suc n)
+deeper_good {S = S} {A = A} L level p n same g = record { at = λ ts lt. subst (GoodFor L p 0 ts) (sym (same n ts)) (go ts (level n ts) (g.at ts (omega arith))); word = g.word }
+  where
+    go : (ts : List S) (r : Outcome S A) → GoodFor L level 1 ts r → GoodFor L p 0 ts r
+    go ts (Ok x) t = record { taken = t.taken; split = t.split; reads = t.reads; local = λ m new lt ok. again m new lt ok }
+      where
+        again : (m : ℕ) (new : List S) → length (t.taken ++ new) < 0 + m → Agree x.1 new → p m (t.taken ++ new) ≡ Ok (x.0, new)
+        again zero new lt ok = absurd (omega arith)
+        again (suc m) new lt ok = same m (t.taken ++ new) ∙ t.local m new (omega arith) ok
+    go ts (Err k) t = record { taken = t.taken; rest = t.rest; split = t.split; left = t.left; viable = t.viable; local = λ m new lt ok. again m new lt ok }
+      where
+        again : (m : ℕ) (new : List S) → length (t.taken ++ new) < 0 + m → Agree t.rest new → p m (t.taken ++ new) ≡ Err (length new)
+        again zero new lt ok = absurd (omega arith)
+        again (suc m) new lt ok = same m (t.taken ++ new) ∙ t.local m new (omega arith) ok
+
+-- ---- what was taken
+
+abbrev pub TakenWith : {S A : Type 0} → Language S A → Language S (A × List S)
+TakenWith L x c = L x.0 c × (x.1 ≡ c)
+
+pub taken_front : {S : Type 0} (c r : List S) → take (length (c ++ r) - length r) (c ++ r) ≡ c
+taken_front {S = S} c r = let e : length (c ++ r) - length r ≡ length c = omega (arith, length-append c r) in rw e (all c)
+  where
+    all : (c : List S) → take (length c) (c ++ r) ≡ c
+    all [] = refl
+    all (t ∷ c) = ap (λ (y : List S). t ∷ y) (all c)
+
+pub taken_good : {S A : Type 0} (L : Language S A) (p : Family S A) (s n : ℕ) → Good L p s n → Good (TakenWith L) (λ m. with_taken (p m)) s n
+unfolding with_taken
+taken_good {S = S} {A = A} L p s n g = record {
+  at = λ ts lt. go ts (p n ts) (g.at ts lt);
+  word = record { value = (g.word.value, g.word.tokens); tokens = g.word.tokens; reads = (g.word.reads, refl) };
+}
+  where
+    go : (ts : List S) (r : Outcome S A) → GoodFor L p s ts r → GoodFor (TakenWith L) (λ m. with_taken (p m)) s ts (taken_for ts r)
+    go ts (Ok x) t =
+        let is : take (length ts - length x.1) ts ≡ t.taken = ap (λ (y : List S). take (length y - length x.1) y) t.split ∙ taken_front t.taken x.1 in record {
+          taken = t.taken;
+          split = t.split;
+          reads = (t.reads, is);
+          local = λ m new lt ok. ap (taken_for (t.taken ++ new)) (t.local m new lt ok) ∙ (λ i. Ok ((x.0, (taken_front t.taken new ∙ sym is) i), new));
+        }
+    go ts (Err k) t = record {
+      taken = t.taken;
+      rest = t.rest;
+      split = t.split;
+      left = t.left;
+      viable = record { value = (t.viable.value, t.taken ++ t.viable.more); more = t.viable.more; whole = (t.viable.whole, refl) };
+      local = λ m new lt ok. ap (taken_for (t.taken ++ new)) (t.local m new lt ok);
+    }
+
 -- ---- the end
 
 abbrev pub Nothing : {S : Type 0} → Language S (Unit {0})
@@ -242,6 +294,29 @@ end_good {S = S} s n = record { at = λ ts lt. at ts; word = record { value = tt
         other [] ok = absurd ok
         other (u ∷ us) ok = refl
 
+-- a parser and nothing behind it
+pub ended_good : {S A : Type 0} (L : Language S A) (p : Family S A) (s n : ℕ) → Good L p s n → Good L (λ m. ended (p m)) s n
+ended_good {S = S} {A = A} L p s n g = weaken _ L _ s n to
+    (bind_good L (λ a. Seq Nothing (λ _ b c. (b ≡ a) × (c ≡ []))) p (λ a m. at_end >> pure a) s n g (λ a. bind_good Nothing (λ _ b c. (b ≡ a) × (c ≡ [])) (λ m. at_end) (λ _ m. pure a) s n (end_good s n) (λ _. pure_good a s n)))
+  where
+    to : (a : A) (c : List S) → Seq L (λ a. Seq Nothing (λ _ b c. (b ≡ a) × (c ≡ []))) a c → L a c
+    to a c q =
+        let none : q.back ≡ [] = q.second.whole ∙ ap (λ (y : List S). y ++ q.second.back) q.second.first ∙ q.second.second.1 in
+        let all : q.front ≡ c = sym (q.whole ∙ ap (λ (y : List S). q.front ++ y) none ∙ append-nil q.front) in
+        subst (λ (y : List S). L a y) all (subst (λ (x : A). L x q.front) (sym q.second.second.0) q.first)
+
+pub ended_ends : {S A : Type 0} (p : Parser S A) (ts : List S) (x : A) (rest : List S) → ended p ts ≡ Ok (x, rest) → rest ≡ []
+unfolding at_end
+ended_ends {S = S} {A = A} p ts x rest is = go (p ts) is
+  where
+    ok_is : (q r : A × List S) → pure q.0 q.1 ≡ pure r.0 r.1 → q ≡ r
+    ok_is q r e = cc
+
+    go : (r : Outcome S A) → and_then r (λ a. at_end >> pure a) ≡ Ok (x, rest) → rest ≡ []
+    go (Ok (y, [])) e = sym (ap (λ (q : A × List S). q.1) (ok_is (y, []) (x, rest) e))
+    go (Ok (y, t ∷ s)) e = absurd cc
+    go (Err f) e = absurd cc
+
 -- ---- how much is left
 
 -- no more than m tokens are left
@@ -255,6 +330,10 @@ good_up {S = S} {A = A} L p s n g m ts lt le = go (p n ts) (g.at ts lt)
     go : (r : Outcome S A) → GoodFor L p s ts r → UpTo m r
     go (Ok x) t = omega (arith, ap length t.split, length-append t.taken x.1)
     go (Err k) t = omega (arith, ap length t.split, length-append t.taken t.rest, t.left)
+
+pub taken_up : {S A : Type 0} (m : ℕ) (i : List S) (r : Outcome S A) → UpTo m r → UpTo m (taken_for i r)
+taken_up m i (Ok x) u = u
+taken_up m i (Err k) u = u
 
 pub bind_up : {S A B : Type 0} (m : ℕ) (r : Outcome S A) (q : A → Parser S B) → UpTo m r → ((x : A) (ts : List S) → length ts ≤ m → UpTo m (q x ts)) → UpTo m (and_then r q)
 bind_up m (Ok x) q u f = f x.0 x.1 u

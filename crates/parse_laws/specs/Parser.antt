@@ -1,5 +1,5 @@
 -- Parsers as functions on lists of tokens: a value with the tokens that are left, or a refusal with the number of those from the refused one on.
-use Rattle.std.specs.Prelude.{ℕ, zero, suc, Bool, false, if◌then◌else◌, List, [], ◌∷◌, ◌++◌, length, Option, Some, None, Result, Ok, Err}
+use Rattle.std.specs.Prelude.{ℕ, zero, suc, ◌-◌, Bool, false, if◌then◌else◌, List, [], ◌∷◌, ◌++◌, length, take, Option, Some, None, Result, Ok, Err}
 
 abbrev pub Outcome : Type 0 → Type 0 → Type 0
 Outcome S A = Result (A × List S) ℕ
@@ -54,7 +54,19 @@ many_from item (suc n) found = item found >>= on_item found (many_from item n)
 abbrev pub optional : {S A : Type 0} → (S → Bool) → Parser S A → Parser S (Option A)
 optional test p = choose test (p >>= (λ a. pure (Some a))) (pure None)
 
+-- a value with the tokens that were taken for it
+abbrev pub taken_for : {S A : Type 0} → List S → Outcome S A → Outcome S (A × List S)
+taken_for i (Ok x) = Ok ((x.0, take (length i - length x.1) i), x.1)
+taken_for i (Err n) = Err n
+
+unfoldable pub with_taken : {S A : Type 0} → Parser S A → Parser S (A × List S)
+with_taken p = λ i. taken_for i (p i)
+
 -- no token is left
 unfoldable pub at_end : {S : Type 0} → Parser S (Unit {0})
 at_end [] = Ok (tt, [])
 at_end (s ∷ i) = Err (length (s ∷ i))
+
+-- and nothing behind it
+abbrev pub ended : {S A : Type 0} → Parser S A → Parser S A
+ended p = p >>= (λ a. at_end >> pure a)
