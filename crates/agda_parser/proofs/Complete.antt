@@ -109,7 +109,7 @@ unfolding same_kind
 names_then_close [] o rest = refl
 names_then_close (x ∷ xs) o rest = refl
 
-names_colon_yes : (xs : List Mark) (o : Mark) (rest : Input) → names_colon (names_then xs (tok k.Colon o ∷ rest)) ≡ true
+pub names_colon_yes : (xs : List Mark) (o : Mark) (rest : Input) → names_colon (names_then xs (tok k.Colon o ∷ rest)) ≡ true
 unfolding names_colon same_kind
 names_colon_yes [] o rest = refl
 names_colon_yes (x ∷ xs) o rest = names_colon_yes xs o rest
@@ -157,7 +157,7 @@ unfolding names_colon same_kind
 inside_plain d r rest = no_binder (then d (tok k.ParenClose r ∷ rest)) (plain d (tok k.ParenClose r ∷ rest) refl)
 
 -- and none with a name and `=`
-equals_after : (x : Mark) (i : Input) → equals_follows (tok k.Name x ∷ i) ≡ sees k.Equals i
+pub equals_after : (x : Mark) (i : Input) → equals_follows (tok k.Name x ∷ i) ≡ sees k.Equals i
 unfolding same_kind
 equals_after x [] = refl
 equals_after x (s ∷ i) = refl
@@ -177,7 +177,7 @@ arguments_no_equals (More (Equated l x o d r) xs) rest h = refl
 arguments_no_equals (More (Projected o x) xs) rest h = refl
 arguments_no_equals (More (ProjectedQualified o x) xs) rest h = refl
 
-other_first : (s : Sign) (i : Input) → is k.Name s ≡ false → equals_follows (s ∷ i) ≡ false
+pub other_first : (s : Sign) (i : Input) → is k.Name s ≡ false → equals_follows (s ∷ i) ≡ false
 other_first s [] h = refl
 other_first s (t ∷ i) h = rw h refl
 
@@ -294,7 +294,7 @@ module _ (text : List ℕ) where
   mutual
     unfolding many_from one_typed typed more_typed pi_from paren_after field one_field more_fields fields record_atom simple_atom named_arg implicit_arg braced_arg project_arg arg one_arg args arrow_tail after_paren braced_from bound lambda_bound binder one_binder binders quantified level expr name expect one same_kind begins_atom colon_follows
 
-    more_typed_read : (n m : ℕ) (found : List Binder) (xs : MoreTyped) (rest : Input) → more_typed_size xs ≤ n → more_typed_size xs ≤ m → next_is begins_typed rest ≡ false
+    pub more_typed_read : (n m : ℕ) (found : List Binder) (xs : MoreTyped) (rest : Input) → more_typed_size xs ≤ n → more_typed_size xs ≤ m → next_is begins_typed rest ≡ false
         → many_from (λ _. one_typed text n (expr text n)) m found (more_typed_then xs rest) ≡ Ok (found ++ more_typed_tree text xs, rest)
     more_typed_read n zero found LastTyped rest le lm st = ap (λ (ys : List Binder). Ok (ys, rest)) (sym (append-nil found))
     more_typed_read n (suc m) found LastTyped rest le lm st = rw st (ap (λ (ys : List Binder). Ok (ys, rest)) (sym (append-nil found)))

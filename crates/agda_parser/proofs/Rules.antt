@@ -22,89 +22,11 @@ use Rattle.agda_parser.specs.Signs.{Input, same_kind, is, expect, begins_atom, n
 use Rattle.agda_parser.specs.Grammar.{Atom, Named, Qualified, Level, Hole, Blank, Paren, Record, NoField, Field, LastField, NextField, Argument, Plain, Braced, Equated, Projected, ProjectedQualified, Arguments, NoArgument, More, Typed, Typing, MoreTyped, LastTyped, NextTyped, Bound, BoundName, BoundBraced, BoundTyped, LastBound, NextBound, LambdaBound, BoundBlank, BoundAs, LastLambdaBound, NextLambdaBound, Derivation, Pi, Forall, Lambda, App, Arrow, names_then, atom_then, fields_then, more_fields_then, argument_then, arguments_then, typed_then, more_typed_then, bound_then, more_bound_then, lambda_bound_then, more_lambda_bound_then, then, atom_tree, fields_tree, more_fields_tree, argument_tree, arguments_tree, typed_tree, more_typed_tree, bound_tree, more_bound_tree, lambda_bound_tree, more_lambda_bound_tree, tree}
 use Rattle.agda_parser.specs.Syntax.{begins_typed, begins_arg, begins_bound, begins_binder, name, one_name, names, typed_from, typed_after, typed, one_typed, more_typed, pi_from, paren_after, field, one_field, more_fields, fields, record_atom, simple_atom, named_arg, implicit_arg, braced_arg, project_arg, arg, one_arg, args, arrow_tail, app_from, after_paren, braced_from, bound, lambda_bound, binder, one_binder, binders, quantified, level, expr}
 use Rattle.parse_laws.specs.Parser.{Outcome, ◌>>=◌, pure, one, next_is, many_from}
-use Rattle.parse_laws.proofs.Good.{Language, Family, Good, Seq, Agree, GoodFor, bind_good, pure_good, weaken, shorten, choose_good, UpTo, good_up, bind_up}
+use Rattle.parse_laws.proofs.Good.{Language, Family, Good, Seq, Agree, GoodFor, bind_good, pure_good, weaken, shorten, choose_good, deeper_good, UpTo, good_up, bind_up}
 use Rattle.parse_laws.proofs.Many.{AllOf, Item, Behind, many_good, optional_good, turns_up}
 use Rattle.parse_laws.proofs.Look.{lined, lined_longer, Eats, LooksOver, look_good}
-use Rattle.agda_parser.proofs.Steps.{Spells, both, single, nothing, As, long_as, all_of, is_tok, Is, expect_good, after_sign}
-
--- a value put at the end takes no sign
-abbrev Gives : {A : Type 0} → A → Language Sign A
-Gives v y c = (y ≡ v) × (c ≡ [])
-
--- ---- names
-
-abbrev IsName : List ℕ → Language Sign Name
-IsName text = As (λ (m : Mark). λ rest. tok k.Name m ∷ rest) (name_of text)
-
-pub name_good : (text : List ℕ) (s n : ℕ) → Good (IsName text) (λ j. name text) s n
-unfolding name
-name_good text s n = weaken _ _ _ s n (λ y c r. record { derivation = r.value; gives = r.second.0; spells = record { at = (both r.whole (single k.Name _ _ r.first) (nothing _ r.second.1)).at } })
-    (bind_good (Is k.Name) (λ m. Gives (name_of text m)) (λ j. expect k.Name) (λ m j. pure (name_of text m)) s n (expect_good k.Name s n) (λ m. pure_good (name_of text m) s n))
-
-pub one_name_good : (text : List ℕ) (found : List Name) (s n : ℕ) → Good (Item (λ _. IsName text) found) (λ j. one_name text) s n
-unfolding one_name
-one_name_good text found s n = optional_good (is k.Name) (λ _. IsName text) found (λ j. name text) s n (name_good text s n) (long_as _ _ (λ d. omega arith))
-
-pub names_good : (text : List ℕ) (found : List Name) (n : ℕ) → Good (Behind (λ _. IsName text) found) (λ j. names text j found) 0 n
-unfolding names one_name
-names_good text found n = many_good (λ _. IsName text) (λ j _. one_name text) 0 n (λ f. one_name_good text f 0 n) (λ m f. refl) (omega arith) found
-
-pub all_names : (text : List ℕ) (found xs : List Name) (c : Input) → AllOf (λ _. IsName text) found xs c → As names_then (map (name_of text)) xs c
-all_names text = all_of (λ (m : Mark). λ rest. tok k.Name m ∷ rest) (name_of text) names_then (map (name_of text)) [] ◌∷◌ (λ rest. refl) refl (λ d ds rest. refl) (λ d ds. refl)
-
--- ---- what looks over names
-
-pub name_is : (s : Sign) → is k.Name s ≡ true → (m : Mark) × (s ≡ tok k.Name m)
-name_is s e = (s.mark, is_tok k.Name s e)
-
-pub over_colon : LooksOver (is k.Name) (tok k.Name) colon_follows
-unfolding colon_follows names_colon same_kind
-over_colon [] [] [] st ag = refl
-over_colon [] [] (v ∷ vs) st ag = absurd ag
-over_colon [] (u ∷ us) [] st ag = absurd ag
-over_colon [] (u ∷ us) (v ∷ vs) st ag = rw (st, ← ag, st) refl
-over_colon (x ∷ xs) u v st ag = go xs
-  where
-    go : (xs : List Mark) → names_colon (lined (tok k.Name) xs u) ≡ names_colon (lined (tok k.Name) xs v)
-    go [] = last u v st ag
-      where
-        last : (u v : Input) → next_is (is k.Name) u ≡ false → Agree u v → names_colon u ≡ names_colon v
-        last [] [] st ag = refl
-        last [] (v ∷ vs) st ag = absurd ag
-        last (u ∷ us) [] st ag = absurd ag
-        last (u ∷ us) (v ∷ vs) st ag = rw (st, ← ag, st) refl
-    go (y ∷ ys) = go ys
-
-pub over_equals : LooksOver (is k.Name) (tok k.Name) equals_follows
-unfolding same_kind
-over_equals [] [] [] st ag = refl
-over_equals [] [] (v ∷ vs) st ag = absurd ag
-over_equals [] (u ∷ us) [] st ag = absurd ag
-over_equals [] (u ∷ us) (v ∷ vs) st ag = go us vs
-  where
-    none : (t : Sign) → is k.Name t ≡ false → (us : Input) → equals_follows (t ∷ us) ≡ false
-    none t e [] = refl
-    none t e (w ∷ ws) = rw e refl
-
-    go : (us vs : Input) → equals_follows (u ∷ us) ≡ equals_follows (v ∷ vs)
-    go us vs = none u st us ∙ sym (none v (ap (is k.Name) (sym ag) ∙ st) vs)
-over_equals (x ∷ []) [] [] st ag = refl
-over_equals (x ∷ []) [] (v ∷ vs) st ag = absurd ag
-over_equals (x ∷ []) (u ∷ us) [] st ag = absurd ag
-over_equals (x ∷ []) (u ∷ us) (v ∷ vs) st ag = rw (← ag) refl
-over_equals (x ∷ y ∷ xs) u v st ag = refl
-
--- names are taken as names
-pub names_eat : (text : List ℕ) (m : ℕ) (found : List Name) (xs : List Mark) (u : Input) → length xs ≤ m → next_is (is k.Name) u ≡ false → (ys : List Name) × (many_from (λ _. one_name text) m found (lined (tok k.Name) xs u) ≡ Ok (ys, u))
-unfolding many_from one_name name expect one same_kind
-names_eat text zero found [] u le st = (found, refl)
-names_eat text (suc m) found [] u le st = (found, rw st refl)
-names_eat text zero found (x ∷ xs) u le st = absurd (omega arith)
-names_eat text (suc m) found (x ∷ xs) u le st = names_eat text m (found ++ name_of text x ∷ []) xs u (omega arith) st
-
-pub lined_count : (xs : List Mark) (u : Input) → length xs ≤ length (lined (tok k.Name) xs u)
-lined_count [] u = omega arith
-lined_count (x ∷ xs) u = omega (arith, lined_count xs u)
+use Rattle.agda_parser.proofs.Steps.{Gives, Spells, both, single, nothing, in_front, As, AsBehind, of_parts, long_as, all_of, Is, expect_good, after_sign}
+use Rattle.agda_parser.proofs.NameRules.{IsName, name_good, names_good, all_names, name_is, over_colon, over_equals, names_up, lined_count, left_eats}
 
 -- ---- expressions
 
@@ -123,9 +45,6 @@ finished x xs (ArrowTail w d) = Arrow x xs w d
 pub finished_then : (x : Atom) (xs : Arguments) (t : Tail) (rest : Input) → then (finished x xs t) rest ≡ atom_then x (arguments_then xs (tail_then t rest))
 finished_then x xs NoTail rest = refl
 finished_then x xs (ArrowTail w d) rest = refl
-
-abbrev pub left_eats : {A : Type 0} → Family Sign A → ℕ → ℕ → Type 0
-left_eats p s n = Eats (is k.Name) (tok k.Name) p s n
 
 module _ (text : List ℕ) where
   abbrev pub Derives : Language Sign Expr
@@ -171,7 +90,7 @@ module _ (text : List ℕ) where
     })
         (bind_good _ _ _ _ 0 n (name_good text 0 n) (λ x. typed_from_good c l x))
 
-    abbrev IsTyped : Language Sign Binder
+    abbrev pub IsTyped : Language Sign Binder
     IsTyped = As typed_then (typed_tree text)
 
     of_after : (c : Bracket) (y : Binder) (cs : Input) → Seq (Is (open_of c)) (λ l. TypedAfter c l) y cs → IsTyped y cs
@@ -190,12 +109,12 @@ module _ (text : List ℕ) where
     typed_long : (d : Typed) → 0 < length (typed_then d [])
     typed_long (Typing c l x xs o d r) = omega arith
 
-    more_typed_good : (found : List Binder) → Good (Behind (λ _. IsTyped) found) (λ j. more_typed text j (expr text j) found) 0 n
+    pub more_typed_good : (found : List Binder) → Good (Behind (λ _. IsTyped) found) (λ j. more_typed text j (expr text j) found) 0 n
     unfolding more_typed one_typed
     more_typed_good found = many_good (λ _. IsTyped) (λ j _. one_typed text j (expr text j)) 0 n
         (λ f. optional_good begins_typed (λ _. IsTyped) f (λ j. typed text j (expr text j)) 0 n (shorten _ _ n typed_good) (long_as _ _ typed_long)) (λ m f. refl) (omega arith) found
 
-    all_typed : (found xs : List Binder) (c : Input) → AllOf (λ _. IsTyped) found xs c → As more_typed_then (more_typed_tree text) xs c
+    pub all_typed : (found xs : List Binder) (c : Input) → AllOf (λ _. IsTyped) found xs c → As more_typed_then (more_typed_tree text) xs c
     all_typed = all_of typed_then (typed_tree text) more_typed_then (more_typed_tree text) LastTyped NextTyped (λ rest. refl) refl (λ d ds rest. refl) (λ d ds. refl)
 
     abbrev PiFrom : Binder → Language Sign Expr
@@ -312,10 +231,7 @@ module _ (text : List ℕ) where
     IsArgument = As argument_then (argument_tree text)
 
     abbrev BracedArg : Mark → Language Sign Arg
-    BracedArg l y cs = (d : Argument) × (y ≡ argument_tree text d) × Spells (argument_then d) (tok k.BraceOpen l ∷ cs)
-
-    in_front : {f : Input → Input} {c : Input} (t : Sign) → Spells f c → Spells (λ r. t ∷ f r) (t ∷ c)
-    in_front t p = record { at = λ rest. ap (λ (x : Input). t ∷ x) (p.at rest) }
+    BracedArg l = AsBehind argument_then (argument_tree text) k.BraceOpen l
 
     named_arg_good : (l : Mark) → Good (BracedArg l) (λ j. named_arg text j (expr text j) l) 0 n
     unfolding named_arg
@@ -336,7 +252,7 @@ module _ (text : List ℕ) where
     ))
         (bind_good _ _ _ _ 0 n goodi (λ v. bind_good _ _ _ _ 0 n (expect_good k.BraceClose 0 n) (λ r. pure_good (a.Implicit (joined l.place r.place) v) 0 n)))
 
-    project_good : (o : Mark) → Good (λ y cs. (d : Argument) × (y ≡ argument_tree text d) × Spells (argument_then d) (tok k.Dot o ∷ cs)) (λ j. project_arg text j (expr text j) o) 0 n
+    project_good : (o : Mark) → Good (AsBehind argument_then (argument_tree text) k.Dot o) (λ j. project_arg text j (expr text j) o) 0 n
     unfolding project_arg
     project_good o = choose_good (is k.Name) _ _ _ 0 n
         (weaken _ _ _ 0 n (λ y cs r. (Projected o r.value, r.second.0, record { at = (in_front (tok k.Dot o) (both r.whole (single k.Name _ _ r.first) (nothing _ r.second.1))).at }))
@@ -363,18 +279,11 @@ module _ (text : List ℕ) where
       braced_arg_good l = look_good (is k.Name) (tok k.Name) name_is equals_follows over_equals (BracedArg l) (λ j. named_arg text j (expr text j) l) (λ j. implicit_arg text j (expr text j) l) 0 n
           (named_arg_good l) (implicit_arg_good l) (named_up l) (implicit_up l)
 
-      of_parts : (kind : Kind) (y : Arg) (cs : Input) → Seq (Is kind) (λ o y cs. (d : Argument) × (y ≡ argument_tree text d) × Spells (argument_then d) (tok kind o ∷ cs)) y cs → IsArgument y cs
-      of_parts kind y cs r = record {
-        derivation = r.second.0;
-        gives = r.second.1;
-        spells = record { at = λ rest. r.second.2.at rest ∙ ap (λ (x : Input). x ++ rest) (sym (r.whole ∙ ap (λ (x : Input). x ++ r.back) r.first)) };
-      }
-
       arg_good : Good IsArgument (λ j. arg text j (expr text j)) 1 n
       unfolding arg
       arg_good =
-          choose_good (is k.BraceOpen) IsArgument _ _ 1 n (weaken _ _ _ 1 n (of_parts k.BraceOpen) (after_sign k.BraceOpen _ _ n braced_arg_good))
-          (choose_good (is k.Dot) IsArgument _ _ 1 n (weaken _ _ _ 1 n (of_parts k.Dot) (after_sign k.Dot _ _ n project_good))
+          choose_good (is k.BraceOpen) IsArgument _ _ 1 n (weaken _ _ _ 1 n (of_parts argument_then (argument_tree text) k.BraceOpen) (after_sign k.BraceOpen _ _ n braced_arg_good))
+          (choose_good (is k.Dot) IsArgument _ _ 1 n (weaken _ _ _ 1 n (of_parts argument_then (argument_tree text) k.Dot) (after_sign k.Dot _ _ n project_good))
           (choose_good (is k.ParenOpen) IsArgument _ _ 1 n
           (weaken _ _ _ 1 n (λ y cs r. let p = r.second.first.derivation in record {
             derivation = Plain (Paren r.value p.0 p.1);
@@ -455,7 +364,7 @@ module _ (text : List ℕ) where
       -- ---- what follows a parenthesis
 
       abbrev AfterParen : Mark → Language Sign Expr
-      AfterParen l y cs = (d : Derivation) × (y ≡ tree text d) × Spells (then d) (tok k.ParenOpen l ∷ cs)
+      AfterParen l = AsBehind then (tree text) k.ParenOpen l
 
       binder_side : (l : Mark) → Good (AfterParen l) (λ j. typed_after text j (expr text j) Round l >>= pi_from text j (expr text j)) 0 n
       binder_side l = weaken _ _ _ 0 n (λ y cs r. let p = r.first.derivation in let t = Typing Round l p.0 p.1 p.2 p.3 p.4 in let w = r.second.derivation in (
@@ -473,13 +382,10 @@ module _ (text : List ℕ) where
       ))
           (bind_good _ _ _ _ 0 n paren_after_good (λ x. shorten _ _ n (app_from_good x)))
 
-      names_up : (m : ℕ) (found : List Name) (xs : List Mark) (u : Input) → length xs ≤ m → next_is (is k.Name) u ≡ false → UpTo (length u) (many_from (λ _. one_name text) m found (lined (tok k.Name) xs u))
-      names_up m found xs u le st = let r = names_eat text m found xs u le st in rw r.1 (omega arith)
-
       typed_after_eats : (c : Bracket) (l : Mark) → left_eats (λ j. typed_after text j (expr text j) c l) 0 n
       unfolding typed_after typed_from names name expect one same_kind
       typed_after_eats c l [] u st lt = good_up _ _ 0 n (typed_after_good c l) (length u) u lt (omega arith)
-      typed_after_eats c l (x ∷ xs) u st lt = bind_up (length u) (many_from (λ _. one_name text) n (name_of text x ∷ []) (lined (tok k.Name) xs u)) _ (names_up n (name_of text x ∷ []) xs u (omega (arith, lined_count xs u)) st)
+      typed_after_eats c l (x ∷ xs) u st lt = bind_up (length u) (many_from (λ _. one_name text) n (name_of text x ∷ []) (lined (tok k.Name) xs u)) _ (names_up text n (name_of text x ∷ []) xs u (omega (arith, lined_count xs u)) st)
           (λ ys ts le. good_up _ _ 0 n (bind_good _ _ _ _ 0 n (expect_good k.Colon 0 n) (λ _. bind_good _ _ _ _ 0 n goodi (λ ty. bind_good _ _ _ _ 0 n (expect_good (close_of c) 0 n) (λ r. pure_good (typed_binder c (joined l.place r.place) ys ty) 0 n))))
           (length u) ts (omega (arith, lined_longer (tok k.Name) xs u)) le)
 
@@ -600,13 +506,6 @@ module _ (text : List ℕ) where
 
       -- ---- an expression
 
-      of_round : (y : Expr) (cs : Input) → Seq (Is k.ParenOpen) AfterParen y cs → Derives y cs
-      of_round y cs r = record {
-        derivation = r.second.0;
-        gives = r.second.1;
-        spells = record { at = λ rest. r.second.2.at rest ∙ ap (λ (x : Input). x ++ rest) (sym (r.whole ∙ ap (λ (x : Input). x ++ r.back) r.first)) };
-      }
-
       of_curly : (y : Expr) (cs : Input) → Seq (Is k.BraceOpen) (λ l. Seq (TypedAfter Curly l) PiFrom) y cs → Derives y cs
       of_curly y cs r = let s = r.second in let p = s.first.derivation in let w = s.second.derivation in record {
         derivation = Pi (Typing Curly r.value p.0 p.1 p.2 p.3 p.4) w.0 w.1 w.2;
@@ -624,7 +523,7 @@ module _ (text : List ℕ) where
       pub level_good : Good Derives (λ j. level text j (expr text j)) 1 n
       unfolding level
       level_good =
-          choose_good (is k.ParenOpen) Derives _ _ 1 n (weaken _ _ _ 1 n of_round (after_sign k.ParenOpen _ _ n after_paren_good))
+          choose_good (is k.ParenOpen) Derives _ _ 1 n (weaken _ _ _ 1 n (of_parts then (tree text) k.ParenOpen) (after_sign k.ParenOpen _ _ n after_paren_good))
           (choose_good (is k.BraceOpen) Derives _ _ 1 n (weaken _ _ _ 1 n of_curly (after_sign k.BraceOpen _ _ n (λ l. bind_good _ _ _ _ 0 n (typed_after_good Curly l) pi_from_good)))
           (choose_good (is k.All) Derives _ _ 1 n forall_good
           (choose_good (is k.Lambda) Derives _ _ 1 n lambdas_good
@@ -648,27 +547,11 @@ module _ (text : List ℕ) where
     pub good : Good (Derives text) (expr text) 0 n
     pub eats : left_eats (expr text) 0 n
 
-  next : (n : ℕ) → Good (Derives text) (λ j. level text j (expr text j)) 1 n → Good (Derives text) (expr text) 0 (suc n)
-  unfolding expr
-  next n g = record { at = λ ts lt. go ts (level text n (expr text n) ts) (g.at ts (omega arith)); word = g.word }
-    where
-      go : (ts : Input) (r : Outcome Sign Expr) → GoodFor (Derives text) (λ j. level text j (expr text j)) 1 ts r → GoodFor (Derives text) (expr text) 0 ts r
-      go ts (Ok x) t = record { taken = t.taken; split = t.split; reads = t.reads; local = λ m new lt ok. again m new lt ok }
-        where
-          again : (m : ℕ) (new : Input) → length (t.taken ++ new) < 0 + m → Agree x.1 new → expr text m (t.taken ++ new) ≡ Ok (x.0, new)
-          again zero new lt ok = absurd (omega arith)
-          again (suc m) new lt ok = t.local m new (omega arith) ok
-      go ts (Err k) t = record { taken = t.taken; rest = t.rest; split = t.split; left = t.left; viable = t.viable; local = λ m new lt ok. again m new lt ok }
-        where
-          again : (m : ℕ) (new : Input) → length (t.taken ++ new) < 0 + m → Agree t.rest new → expr text m (t.taken ++ new) ≡ Err (length new)
-          again zero new lt ok = absurd (omega arith)
-          again (suc m) new lt ok = t.local m new (omega arith) ok
-
   sound : (n : ℕ) → Sound n
   unfolding expr
   sound zero = record { good = record { at = λ ts lt. absurd (omega arith); word = record { value = tree text a_name; tokens = then a_name []; reads = a_word } }; eats = λ xs u st lt. absurd (omega arith) }
   sound (suc n) = let h = sound n in record {
-    good = next n (level_good text n h.good h.eats);
+    good = deeper_good (Derives text) (λ j. level text j (expr text j)) (expr text) n (λ m ts. refl) (level_good text n h.good h.eats);
     eats = λ xs u st lt. level_eats text n h.good h.eats xs u st (omega arith);
   }
 

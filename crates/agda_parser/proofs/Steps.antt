@@ -25,6 +25,9 @@ single kind m c e = record { at = λ rest. rw e refl }
 pub nothing : (c : Input) → c ≡ [] → Spells (λ r. r) c
 nothing c e = record { at = λ rest. rw e refl }
 
+pub in_front : {f : Input → Input} {c : Input} (t : Sign) → Spells f c → Spells (λ r. t ∷ f r) (t ∷ c)
+in_front t p = record { at = λ rest. ap (λ (x : Input). t ∷ x) (p.at rest) }
+
 -- what is read is the tree of a derivation, and was taken from its signs
 pub record As {D A : Type 0} (f : D → Input → Input) (g : D → A) (x : A) (c : Input) : Type 0 where
   pub derivation : D
@@ -78,6 +81,21 @@ unfolding expect
 expect_good kind s n = weaken (One (mark_of kind)) (Is kind) (λ j. one (mark_of kind)) s n
     (λ m c o. o.1 ∙ ap (λ (t : Sign). t ∷ []) (marked kind o.0 m o.2))
     (one_good (mark_of kind) (tok kind no_mark) no_mark s n (rw same_self refl))
+
+-- a value put at the end takes no sign
+abbrev pub Gives : {A : Type 0} → A → Language Sign A
+Gives v y c = (y ≡ v) × (c ≡ [])
+
+-- what is read behind a sign of the kind, which is the first of its derivation
+abbrev pub AsBehind : {D A : Type 0} → (D → Input → Input) → (D → A) → Kind → Mark → Language Sign A
+AsBehind {D = D} f g kind o y cs = (d : D) × (y ≡ g d) × Spells (f d) (tok kind o ∷ cs)
+
+pub of_parts : {D A : Type 0} (f : D → Input → Input) (g : D → A) (kind : Kind) (y : A) (cs : Input) → Seq (Is kind) (λ o. AsBehind f g kind o) y cs → As f g y cs
+of_parts f g kind y cs r = record {
+  derivation = r.second.0;
+  gives = r.second.1;
+  spells = record { at = λ rest. r.second.2.at rest ∙ ap (λ (x : Input). x ++ rest) (sym (r.whole ∙ ap (λ (x : Input). x ++ r.back) r.first)) };
+}
 
 -- a sign first: what follows has one sign less
 pub after_sign : {B : Type 0} (kind : Kind) (M : Mark → Language Sign B) (q : Mark → Family Sign B) (n : ℕ) → ((m : Mark) → Good (M m) (q m) 0 n) → Good (Seq (Is kind) M) (λ j. expect kind >>= (λ m. q m j)) 1 n

@@ -1,13 +1,17 @@
 -- Where a parser of whole lists is known to be sound, local, viable and complete, its answers on a list, cut behind the first sign that is
 -- nested too deep, are those of the definition of reading.
-use Rattle.std.proofs.Common.{◌≡◌, ℕ, zero, suc, ◌≤◌, ◌<◌, ◌+◌, ◌-◌, List, [], ◌∷◌, ◌++◌, length, take, drop, Ok, Err, refl, sym, ap, subst, ◌∙◌, append_assoc, arith}
+use Rattle.std.proofs.Common.{◌≡◌, ℕ, zero, suc, ◌≤◌, ◌<◌, ◌+◌, ◌-◌, List, [], ◌∷◌, ◌++◌, length, take, drop, Result, Ok, Err, refl, sym, ap, subst, ◌∙◌, append_assoc, arith}
+use Rattle.std.proofs.lemmas.Bool.{ne_eqb}
 use Rattle.std.proofs.lemmas.List.{append-nil, length-append}
 use Rattle.agda_parser.specs.declared.sign.Sign.{Sign}
 use Rattle.agda_parser.specs.declared.error.ParseError.TheVariants.{Bad}
 use Rattle.agda_parser.specs.declared.error.ParseKind.TheVariants.{Unexpected, TooNested}
 use Rattle.agda_parser.specs.Nesting.{origin, shallow}
 use Rattle.agda_parser.specs.Reading.{IsViable, IsWrong, Settles, place_at, end_pos}
-use Rattle.agda_parser.specs.Signs.{Input}
+use Rattle.agda_parser.specs.declared.stop.Stop.{Stop}
+use Rattle.agda_parser.specs.declared.stop.Stop.TheVariants as stop
+use Rattle.agda_parser.specs.Refusals.{LeftUpTo, whole_answer, front_refusal}
+use Rattle.agda_parser.specs.Signs.{Input, Reads, Answers, Checks}
 use Rattle.parse_laws.specs.Parser.{Outcome}
 use Rattle.parse_laws.proofs.Good.{Family, Good, GoodFor, Agree, Viable}
 use Rattle.agda_parser.proofs.Steps.{As}
@@ -172,3 +176,30 @@ module _ {D A : Type 0} (f : D → Input → Input) (g : D → A) (p : Family Si
         let whole = front_err c.front c.sign c.more (ap (shallow origin) (sym c.split) ∙ deep ∙ sym c.left) n k (omega (arith, length-append c.front (c.sign ∷ []), c.left)) some (ap (p n) (sym c.taken) ∙ is) in
         let e : length i - (count + 1) + k ≡ length c.more + k = omega (arith, ap length c.split, length-append c.front (c.sign ∷ c.more), c.left) in
         subst (λ (y : Input). WrongAt y (length i - (count + 1) + k)) (sym c.split) (subst (λ (m : ℕ). WrongAt (c.front ++ c.sign ∷ c.more) m) (sym e) whole)
+
+    -- what a call answers, of what reading gave
+    pub answers_of : (n : ℕ) (ts : Input) (r : Result A Stop) (new : Input) → Reads (p n ts) r new → Answers (p n ts) r
+    answers_of n ts (Ok x) new e = e ∙ ap (λ (y : Input). Ok (x, y)) (ends n ts x new e)
+    answers_of n ts (Err (stop.Unexpected k)) new e = e (λ f. cc (f))
+    answers_of n ts (Err stop.NoMemory) new e = tt
+
+    pub whole_left : (n : ℕ) (i : Input) (r : Result A Stop) → length i < n → Answers (p n i) r → LeftUpTo (length i) r
+    whole_left n i (Ok x) lt is = tt
+    whole_left n i (Err (stop.Unexpected k)) lt is = left_within n i k lt is
+    whole_left n i (Err stop.NoMemory) lt is = tt
+
+    pub whole_settles : (n : ℕ) (i : Input) (r : Result A Stop) → length i < n → shallow origin i ≡ length i → Answers (p n i) r → Settles f g text i (whole_answer text i r)
+    whole_settles n i (Ok x) lt within is = all_ok n i x [] lt within is
+    whole_settles n i (Err (stop.Unexpected k)) lt within is = all_err n i k lt within is
+    whole_settles n i (Err stop.NoMemory) lt within is = tt
+
+    pub front_left : (n : ℕ) (i : Input) (count : ℕ) (r : Result (Unit {0}) Stop) → count < length i → count + 1 < n → Checks (p n (take (count + 1) i)) r → LeftUpTo (count + 1) r
+    front_left n i count (Ok u) lt few is = tt
+    front_left n i count (Err (stop.Unexpected k)) lt few is = cut_left n i count k lt few is
+    front_left n i count (Err stop.NoMemory) lt few is = tt
+
+    pub front_settles : (n : ℕ) (i : Input) (count : ℕ) (r : Result (Unit {0}) Stop) → shallow origin i ≡ count → count < length i → count + 1 < n → Checks (p n (take (count + 1) i)) r → Settles f g text i (Err (front_refusal text i count r))
+    front_settles n i count (Ok u) deep lt few is = cut_ok n i count is.0 [] deep lt few is.1
+    front_settles n i count (Err (stop.Unexpected zero)) deep lt few is = cut_end n i count deep lt few is
+    front_settles n i count (Err (stop.Unexpected (suc k))) deep lt few is = rw (ne_eqb (suc k) 0 (λ e. omega arith)) (cut_err n i count (suc k) deep lt few (omega arith) is)
+    front_settles n i count (Err stop.NoMemory) deep lt few is = tt

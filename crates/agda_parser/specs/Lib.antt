@@ -5,6 +5,12 @@ pub mod Grammar
 pub mod Syntax
 pub mod Nesting
 pub mod Reading
+pub mod Refusals
 pub mod NestingView
 pub mod Tokens
 pub mod Depths
+pub mod Patterns
+pub mod PatternSyntax
+pub mod Groups
+pub mod Declarations
+pub mod DeclarationSyntax

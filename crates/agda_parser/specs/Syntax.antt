@@ -20,7 +20,7 @@ use Rattle.agda_parser.specs.declared.quantifier.Quantifier.TheVariants as q
 use Rattle.agda_parser.specs.Names.{name_of}
 use Rattle.agda_parser.specs.Trees.{close_of, typed_binder, applied}
 use Rattle.agda_parser.specs.Signs.{is, expect, begins_atom, colon_follows, equals_follows}
-use Rattle.parse_laws.specs.Parser.{Parser, ◌>>=◌, ◌>>◌, pure, choose, optional, many_from, at_end}
+use Rattle.parse_laws.specs.Parser.{Parser, ◌>>=◌, ◌>>◌, pure, choose, optional, many_from, ended}
 
 abbrev pub begins_typed : Sign → Bool
 begins_typed s = if is k.ParenOpen s then true else is k.BraceOpen s
@@ -219,7 +219,4 @@ module _ (text : List ℕ) where
 
   -- an expression and nothing behind it
   unfoldable pub whole_expr : ℕ → Parser Sign Expr
-  whole_expr turns = do
-    x ← expr turns
-    at_end
-    pure x
+  whole_expr turns = ended (expr turns)

@@ -1,6 +1,7 @@
-ghost use Rattle.std.specs.Prelude.{◌≡◌, length};
+ghost use Rattle.std.specs.Prelude.{◌≡◌, ◌-◌, length, take};
 ghost use Rattle.agda_parser.specs.Signs as spec;
 ghost use Rattle.agda_parser.specs.Signs.{Reads};
+ghost use Rattle.agda_parser.specs.Declarations as trees;
 ghost use Rattle.parse_laws.specs.Parser as laws;
 
 use crate::sign::{Kind, Mark, Sign};
@@ -34,6 +35,23 @@ impl<'a> Signs<'a> {
         ensures { result ≡ rest.now }
     {
         Signs { rest }
+    }
+
+    pub fn copy(&self) -> Signs<'a>
+        ensures { result ≡ self.now }
+    {
+        Signs { rest: self.rest }
+    }
+
+    /// The end of the last of the signs that were taken of those before, or `end` where there is none.
+    pub fn end_since(&self, before: &Signs<'_>, end: u32) -> u32
+        ensures { result ≡ trees.last_end end (take (length before.now - length self.now) before.now) }
+    {
+        let mut last = end;
+        for sign in &before.rest[..before.left().saturating_sub(self.left())] {
+            last = sign.mark.place.span.end;
+        }
+        last
     }
 
     pub fn left(&self) -> usize

@@ -78,8 +78,9 @@ fn one_typed(
     }
 }
 
+/// Reads typed binders while they come, after those found.
 #[cycle(expr)]
-fn more_typed(
+pub fn more_typed(
     alloc: Global,
     text: &str,
     signs: &mut Signs<'_>,

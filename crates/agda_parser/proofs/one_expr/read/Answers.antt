@@ -1,7 +1,32 @@
-use Rattle.std.proofs.Common.{arith}
-use Rattle.agda_parser.specs.Nesting.{origin}
-use Rattle.agda_parser.proofs.Whole.{none_deep}
+use Rattle.std.proofs.Common.{◌≡◌, ◌<◌, ◌+◌, length, arith, rules}
+use Rattle.std.proofs.lemmas.Grind.{common_steps}
+use Rattle.agda_parser.specs.Nesting.{origin, shallow}
+use Rattle.agda_parser.proofs.Verdict.{whole_left, whole_settles, front_left, front_settles}
+use Rattle.agda_parser.specs.Grammar.{then, tree}
+use Rattle.agda_parser.specs.Syntax.{whole_expr}
+use Rattle.agda_parser.proofs.Complete.{size}
+use Rattle.agda_parser.proofs.Whole.{none_deep, expr_whole, expr_ends, expr_read}
 use Rattle.agda_parser.proofs.one_expr.read.Goals as goal
 
-pub read_all-requires-clause-within : goal.read_all-requires-clause-within
-read_all-requires-clause-within c = omega (arith, none_deep origin c.args.signs.now, c.in_ok-count.ensures)
+pub front_refusal-requires-clause-within : goal.front_refusal-requires-clause-within
+front_refusal-requires-clause-within c =
+    let more : c.in-Some.turns ≡ length c.args.signs.now + 1 = first_of (search rules, grind (arith, common_steps)) in
+    front_left then (tree c.args.text.now) (whole_expr c.args.text.now) size (expr_whole c.args.text.now) (expr_ends c.args.text.now) (expr_read c.args.text.now) c.args.text.now c.in-Some.turns c.args.signs.now c.in_ok-count.count c.check_expr-found.result (omega arith) (omega (arith, more)) c.check_expr-found.ensures
+
+pub whole_answer-requires-clause-within : goal.whole_answer-requires-clause-within
+whole_answer-requires-clause-within c =
+    let more : c.in-Some.turns ≡ length c.args.signs.now + 1 = first_of (search rules, grind (arith, common_steps)) in
+    whole_left then (tree c.args.text.now) (whole_expr c.args.text.now) size (expr_whole c.args.text.now) (expr_ends c.args.text.now) (expr_read c.args.text.now) c.args.text.now c.in-Some.turns c.args.signs.now c.read_expr-found.result (omega (arith, more)) c.read_expr-found.ensures
+
+pub returns-then-count-signs : goal.returns-then-count-signs
+returns-then-count-signs c =
+    let more : c.in-Some.turns ≡ length c.args.signs.now + 1 = first_of (search rules, grind (arith, common_steps)) in
+    let deep : shallow origin c.args.signs.now ≡ c.in_ok-count.count = first_of (search rules, grind (arith, common_steps)) in
+    rw c.front_refusal.ensures
+    (front_settles then (tree c.args.text.now) (whole_expr c.args.text.now) size (expr_whole c.args.text.now) (expr_ends c.args.text.now) (expr_read c.args.text.now) c.args.text.now c.in-Some.turns c.args.signs.now c.in_ok-count.count c.check_expr-found.result deep (omega arith) (omega (arith, more)) c.check_expr-found.ensures)
+
+pub returns-else-count-signs : goal.returns-else-count-signs
+returns-else-count-signs c =
+    let more : c.in-Some.turns ≡ length c.args.signs.now + 1 = first_of (search rules, grind (arith, common_steps)) in
+    rw c.whole_answer.ensures
+    (whole_settles then (tree c.args.text.now) (whole_expr c.args.text.now) size (expr_whole c.args.text.now) (expr_ends c.args.text.now) (expr_read c.args.text.now) c.args.text.now c.in-Some.turns c.args.signs.now c.read_expr-found.result (omega (arith, more)) (omega (arith, none_deep origin c.args.signs.now, c.in_ok-count.ensures)) c.read_expr-found.ensures)

@@ -1,0 +1,6 @@
+use Rattle.std.proofs.Common.{◌≡◌, drop}
+use Rattle.agda_parser.specs.Declarations.{last_signature}
+use Rattle.agda_parser.proofs.decls.last_signature.Given as goal
+
+abbrev pub invariant-loop-signature : goal.invariant-loop-signature
+invariant-loop-signature l = last_signature l.last (drop l.signature-index l.signatures) ≡ last_signature l.fn.place l.signatures
