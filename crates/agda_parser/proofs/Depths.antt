@@ -9,18 +9,18 @@ use Rattle.agda_parser.specs.Grammar.{Atom, Named, Qualified, Level, Hole, Blank
 use Rattle.agda_parser.specs.Nesting.{limit, rise, Depth, origin, nesting, behind, shallow}
 use Rattle.agda_parser.specs.Depths.{names_depths, atom_depths, fields_depths, more_fields_depths, argument_depths, arguments_depths, typed_depths, more_typed_depths, bound_depths, more_bound_depths, lambda_bound_depths, more_lambda_bound_depths, depths, nestings, leading}
 
-abbrev at : ℕ → List ℕ → Depth
+abbrev pub at : ℕ → List ℕ → Depth
 at n ns = record { now = n; outer = ns }
 
 -- the nesting of what comes behind a derivation, if it closes nothing
-abbrev out : Derivation → ℕ → ℕ
+abbrev pub out : Derivation → ℕ → ℕ
 out (Pi x xs w d) n = out d (rise n)
 out (Forall m x xs w d) n = out d (rise n)
 out (Lambda m x xs w d) n = out d (rise n)
 out (App x xs) n = n
 out (Arrow x xs w d) n = out d (rise n)
 
-names_counted : (xs : List Mark) (n : ℕ) (ns : List ℕ) (rest : List Sign) → nestings (at n ns) (names_then xs rest) ≡ names_depths xs n (nestings (at n ns) rest)
+pub names_counted : (xs : List Mark) (n : ℕ) (ns : List ℕ) (rest : List Sign) → nestings (at n ns) (names_then xs rest) ≡ names_depths xs n (nestings (at n ns) rest)
 names_counted [] n ns rest = refl
 names_counted (x ∷ xs) n ns rest = ap (λ (y : List ℕ). n ∷ y) (names_counted xs n ns rest)
 
@@ -62,7 +62,7 @@ mutual
   typed_counted (Typing Curly l x xs o d r) n ns rest =
       ap (λ (y : List ℕ). n ∷ rise n ∷ y) (names_counted xs (rise n) (n ∷ ns) (tok k.Colon o ∷ then d (tok k.BraceClose r ∷ rest)) ∙ ap (λ (y : List ℕ). names_depths xs (rise n) (rise n ∷ y)) (counted d (rise n) (n ∷ ns) (tok k.BraceClose r ∷ rest)))
 
-  more_typed_counted : (xs : MoreTyped) (n : ℕ) (ns : List ℕ) (rest : List Sign) → nestings (at n ns) (more_typed_then xs rest) ≡ more_typed_depths xs n (nestings (at n ns) rest)
+  pub more_typed_counted : (xs : MoreTyped) (n : ℕ) (ns : List ℕ) (rest : List Sign) → nestings (at n ns) (more_typed_then xs rest) ≡ more_typed_depths xs n (nestings (at n ns) rest)
   more_typed_counted LastTyped n ns rest = refl
   more_typed_counted (NextTyped x xs) n ns rest = typed_counted x n ns (more_typed_then xs rest) ∙ ap (typed_depths x n) (more_typed_counted xs n ns rest)
 
@@ -83,7 +83,7 @@ mutual
   more_lambda_bound_counted LastLambdaBound n ns rest = refl
   more_lambda_bound_counted (NextLambdaBound x xs) n ns rest = lambda_bound_counted x n ns (more_lambda_bound_then xs rest) ∙ ap (lambda_bound_depths x n) (more_lambda_bound_counted xs n ns rest)
 
-  counted : (d : Derivation) (n : ℕ) (ns : List ℕ) (rest : List Sign) → nestings (at n ns) (then d rest) ≡ depths d n (nestings (at (out d n) ns) rest)
+  pub counted : (d : Derivation) (n : ℕ) (ns : List ℕ) (rest : List Sign) → nestings (at n ns) (then d rest) ≡ depths d n (nestings (at (out d n) ns) rest)
   counted (Pi x xs w d) n ns rest =
       typed_counted x n ns (more_typed_then xs (tok k.Arrow w ∷ then d rest))
       ∙ ap (typed_depths x n) (more_typed_counted xs n ns (tok k.Arrow w ∷ then d rest) ∙ ap (λ (y : List ℕ). more_typed_depths xs n (n ∷ y)) (counted d (rise n) ns rest))

@@ -12,3 +12,5 @@ pub mod PatternComplete
 pub mod Verdict
 pub mod Whole
 pub mod Depths
+pub mod FileDepths
+pub mod OneAnswer

@@ -9,6 +9,7 @@ pub mod Refusals
 pub mod NestingView
 pub mod Tokens
 pub mod Depths
+pub mod FileDepths
 pub mod Patterns
 pub mod PatternSyntax
 pub mod Groups

@@ -7,11 +7,7 @@ use crate::sign::Sign;
 use crate::stop::Stop;
 
 /// The answer to signs none of which is nested too deep, of what reading all of them gave.
-pub fn whole_answer<T>(
-    text: &str,
-    signs: &[Sign],
-    found: Result<T, Stop>,
-) -> Result<T, ParseError>
+pub fn whole_answer<T>(text: &str, signs: &[Sign], found: Result<T, Stop>) -> Result<T, ParseError>
     requires text_short { length text.now + 2 ≤ 2 ^ 32 }
     requires within { spec.LeftUpTo (length signs.now) found }
     ensures { result ≡ spec.whole_answer text.now signs.now found }

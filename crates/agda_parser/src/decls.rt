@@ -13,8 +13,8 @@ use crate::names::{name, names};
 use crate::patterns::elims;
 use crate::sign::{Kind, Mark};
 use crate::stop::Stop;
-use source_tree::{Clause, Expr, Pattern, Place, Signature};
 use el_outside::Span;
+use source_tree::{Clause, Expr, Pattern, Place, Signature};
 use sqlite_items::Items;
 use std::alloc::Global;
 

@@ -51,11 +51,20 @@ fn reads(rt: HostRuntime) {
         ("open R", 1),
         ("open R public", 1),
         ("data D : Set where", 1),
-        ("data D (x y : A) {z : B} : Set where\n  c d : D\n  e : D", 1),
+        (
+            "data D (x y : A) {z : B} : Set where\n  c d : D\n  e : D",
+            1,
+        ),
         ("record R : Set where", 1),
         ("record R (x : A) : Set where\n  field", 1),
-        ("record R : Set where\n  inductive\n  constructor c\n  field\n    x : A\n  field y : B", 1),
-        ("record R : Set where\n  constructor c\n  coinductive\n  field x : A", 1),
+        (
+            "record R : Set where\n  inductive\n  constructor c\n  field\n    x : A\n  field y : B",
+            1,
+        ),
+        (
+            "record R : Set where\n  constructor c\n  coinductive\n  field x : A",
+            1,
+        ),
         ("record R : Set where\n  constructor c\n  field x : A", 1),
         ("record R : Set where\n  coinductive\n  field x : A", 1),
         ("record R : Set where\n  inductive", 1),
@@ -104,9 +113,17 @@ fn refuses(rt: HostRuntime) {
         ("record R : Set where\n  x : A", 2, 3),
         ("record R : Set where\n  field x : A\n  constructor c", 3, 3),
         ("record R : Set where\n  field x : A\n  inductive", 3, 3),
-        ("record R : Set where\n  constructor c\n  constructor d", 3, 3),
+        (
+            "record R : Set where\n  constructor c\n  constructor d",
+            3,
+            3,
+        ),
         ("record R : Set where\n  inductive\n  coinductive", 3, 3),
-        ("record R : Set where\n  inductive\n  constructor c\n  inductive", 4, 3),
+        (
+            "record R : Set where\n  inductive\n  constructor c\n  inductive",
+            4,
+            3,
+        ),
         ("record R : Set where\n  constructor", 2, 14),
         ("record R : Set where\n  field x = A", 2, 11),
         ("mutual", 1, 1),
@@ -122,9 +139,13 @@ fn refuses(rt: HostRuntime) {
 /// The number of patterns and the span, if the declaration is one clause.
 fn clause(found: &Decl) -> Option<(usize, u32, u32)> {
     match found {
-        Decl::Clause(Clause {
-            place, patterns, ..
-        }) => Some((patterns.len(), place.span.start, place.span.end)),
+        Decl::Clause(
+            Clause {
+                place,
+                patterns,
+                ..
+            },
+        ) => Some((patterns.len(), place.span.start, place.span.end)),
         _ => None,
     }
 }
@@ -169,9 +190,18 @@ fn is_nested(found: &Pattern) -> bool {
 fn patterns(rt: HostRuntime) -> Result<(), ParseError> {
     let file = read(rt.alloc(), "f (c _ (d x)) () .(e) {p} {x = p} .p .R.p")?;
     match file.decls.as_slice() {
-        [Decl::Clause(Clause { patterns, right: None, .. })] => {
+        [
+            Decl::Clause(
+                Clause {
+                    patterns,
+                    right: None,
+                    ..
+                },
+            ),
+        ] => {
             assert!(rt; matches!(patterns.as_slice(), [first, ..] if is_nested(first)));
-            assert!(rt; matches!(patterns.as_slice(), [
+            assert!(rt;
+                matches!(patterns.as_slice(), [
                 _,
                 Pattern::Absurd(_),
                 Pattern::Dotted(dotted, Expr::Name(_)),
@@ -179,7 +209,8 @@ fn patterns(rt: HostRuntime) -> Result<(), ParseError> {
                 Pattern::Named(_, _, _),
                 Pattern::Project(_, _),
                 Pattern::ProjectQualified(_, _)
-            ] if dotted.pos.col == 18));
+            ] if dotted.pos.col == 18)
+            );
         }
         _ => assert!(rt; false),
     }
@@ -195,20 +226,33 @@ fn records(rt: HostRuntime) -> Result<(), ParseError> {
     )?;
     match file.decls.as_slice() {
         [Decl::Record(place, _name, binders, Expr::SetLevel(_, 0), items)] => {
-            assert!(rt; place.pos.col == 8 && place.span.start == 0 && place.span.end == 90 && binders.len() == 1);
-            assert!(rt; matches!(items.as_slice(), [
+            assert!(rt;
+                place.pos.col == 8
+                    && place.span.start == 0
+                    && place.span.end == 90
+                    && binders.len() == 1
+            );
+            assert!(rt;
+                matches!(items.as_slice(), [
                 RecordItem::Constructor(_, _),
                 RecordItem::Inductive(_),
                 RecordItem::Field(_, first),
                 RecordItem::Field(_, second)
-            ] if first.len() == 1 && second.len() == 1));
+            ] if first.len() == 1 && second.len() == 1)
+            );
         }
         _ => assert!(rt; false),
     }
     Ok(())
 }
 
-fn nested(alloc: Global, before: &str, opening: &str, close: &str, levels: usize) -> Result<String, AllocError> {
+fn nested(
+    alloc: Global,
+    before: &str,
+    opening: &str,
+    close: &str,
+    levels: usize,
+) -> Result<String, AllocError> {
     let mut text = String::new(alloc);
     text.push_str(before)?;
     for _level in 0..levels {

@@ -24,7 +24,11 @@ fn alone(alloc: Global, entry: Entry) -> Decl
     ensures { result ≡ spec.alone entry }
 {
     match entry {
-        Entry::Signature(signature) => Decl::Function(signature.place, signature, Items::new(alloc)),
+        Entry::Signature(signature) => Decl::Function(
+            signature.place,
+            signature,
+            Items::new(alloc),
+        ),
         Entry::Clause(clause) => Decl::Clause(clause),
         Entry::Other(decl) => decl,
     }
@@ -52,12 +56,7 @@ fn after_function(
 }
 
 /// Puts an item to the declaration before it where they are one, and else that to those that are done.
-fn next(
-    alloc: Global,
-    done: &mut Items<Decl>,
-    last: Decl,
-    entry: Entry,
-) -> Result<Decl, AllocError>
+fn next(alloc: Global, done: &mut Items<Decl>, last: Decl, entry: Entry) -> Result<Decl, AllocError>
     ensures { IfOk result (λ x. (es : List Item) → done.old ++ spec.grouped_from last (entry ∷ es) ≡ done.new ++ spec.grouped_from x es) }
 {
     match entry {

@@ -32,7 +32,12 @@ fn named_place(word: Mark, name: Place, last: Place) -> Place
 }
 
 #[tactic(auto, unfolding(crate::specs::DeclarationSyntax::postulate_item))]
-fn postulate_item(alloc: Global, text: &str, signs: &mut Signs<'_>, turns: usize) -> Result<Entry, Stop>
+fn postulate_item(
+    alloc: Global,
+    text: &str,
+    signs: &mut Signs<'_>,
+    turns: usize,
+) -> Result<Entry, Stop>
     ensures { Reads (spec.postulate_item text.now turns signs.old) result signs.new }
 {
     let word = signs.expect(Kind::Postulate)?;
@@ -68,12 +73,21 @@ fn data_item(alloc: Global, text: &str, signs: &mut Signs<'_>, turns: usize) -> 
     let ty = expr(alloc, text, signs, turns)?;
     let end = signs.expect(Kind::Where)?;
     let found = declarings(alloc, text, signs, turns)?;
-    let place = named_place(word, name.place, last_signature(end.place, found.as_slice()));
+    let place = named_place(
+        word,
+        name.place,
+        last_signature(end.place, found.as_slice()),
+    );
     Ok(Entry::Other(Decl::Data(place, name, binders, ty, found)))
 }
 
 #[tactic(auto, unfolding(crate::specs::DeclarationSyntax::record_item))]
-fn record_item(alloc: Global, text: &str, signs: &mut Signs<'_>, turns: usize) -> Result<Entry, Stop>
+fn record_item(
+    alloc: Global,
+    text: &str,
+    signs: &mut Signs<'_>,
+    turns: usize,
+) -> Result<Entry, Stop>
     ensures { Reads (spec.record_item text.now turns signs.old) result signs.new }
 {
     let word = signs.expect(Kind::Record)?;
@@ -145,7 +159,12 @@ fn more_items(
 }
 
 #[tactic(auto, unfolding(crate::specs::DeclarationSyntax::inner_items))]
-fn inner_items(alloc: Global, text: &str, signs: &mut Signs<'_>, turns: usize) -> Result<Grown<Entry>, Stop>
+fn inner_items(
+    alloc: Global,
+    text: &str,
+    signs: &mut Signs<'_>,
+    turns: usize,
+) -> Result<Grown<Entry>, Stop>
     ensures { Reads (spec.inner_items text.now turns signs.old) result signs.new }
 {
     let mut found = Grown::new(alloc);

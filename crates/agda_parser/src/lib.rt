@@ -9,6 +9,8 @@ mod decls;
 mod entry;
 mod error;
 mod exprs;
+#[cfg(test)]
+mod file_tests;
 mod form;
 mod group;
 mod items;
@@ -24,8 +26,6 @@ mod records;
 mod refuse;
 mod sign;
 mod stop;
-#[cfg(test)]
-mod file_tests;
 #[cfg(test)]
 mod tests;
 mod token;

@@ -71,12 +71,7 @@ fn read(alloc: Global, text: &str, signs: &[Sign]) -> Result<File, ParseError>
 /// `Unexpected` at the first token that no reading allows, where a sign of a block stands for the token behind it, or at the end
 /// of the text; `TooNested` at the first token that stands in more than 200 parentheses, braces, bodies of `λ` and right sides
 /// of arrows; the earlier of the two. Or want of memory.
-pub fn parse(
-    alloc: Global,
-    text: &str,
-    tokens: &[Token],
-    laid: &[Laid],
-) -> Result<File, ParseError>
+pub fn parse(alloc: Global, text: &str, tokens: &[Token], laid: &[Laid]) -> Result<File, ParseError>
     requires text_short { length text.now + 2 ≤ 2 ^ 32 }
     ensures { Settles file_then (file_tree text.now) text.now (tokens_spec.laid_signs tokens.now laid.now) result }
 {

@@ -29,7 +29,12 @@ fn last_pattern(place: Place, patterns: &[Pattern]) -> Place
 }
 
 /// A name with its eliminations.
-fn matched(alloc: Global, text: &str, mark: Mark, patterns: Items<Pattern>) -> Result<Pattern, NoMemory>
+fn matched(
+    alloc: Global,
+    text: &str,
+    mark: Mark,
+    patterns: Items<Pattern>,
+) -> Result<Pattern, NoMemory>
     ensures { IfOk result (λ x. x ≡ trees.matched text.now mark patterns) }
 {
     let place = mark.place.to(last_pattern(mark.place, patterns.as_slice()));
@@ -199,7 +204,12 @@ fn pattern_level(
 
 /// Reads a pattern. `turns` is more than the signs that are left.
 #[cycle(pattern)]
-pub fn pattern(alloc: Global, text: &str, signs: &mut Signs<'_>, turns: usize) -> Result<Pattern, Stop>
+pub fn pattern(
+    alloc: Global,
+    text: &str,
+    signs: &mut Signs<'_>,
+    turns: usize,
+) -> Result<Pattern, Stop>
     ensures { Reads (spec.pattern text.now turns signs.old) result signs.new }
 {
     if turns == 0 {

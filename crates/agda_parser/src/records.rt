@@ -58,7 +58,12 @@ fn induction(text: &str, signs: &mut Signs<'_>, turns: usize) -> Result<RecordIt
 
 /// Reads `constructor c`.
 #[tactic(auto, unfolding(crate::specs::DeclarationSyntax::constructor_item))]
-fn constructor_item(alloc: Global, text: &str, signs: &mut Signs<'_>, turns: usize) -> Result<RecordItem, Stop>
+fn constructor_item(
+    alloc: Global,
+    text: &str,
+    signs: &mut Signs<'_>,
+    turns: usize,
+) -> Result<RecordItem, Stop>
     ensures { Reads (spec.constructor_item text.now turns signs.old) result signs.new }
 {
     let word = signs.expect(Kind::Constructor)?;
@@ -68,7 +73,12 @@ fn constructor_item(alloc: Global, text: &str, signs: &mut Signs<'_>, turns: usi
 
 /// Reads `field` and its block.
 #[tactic(auto, unfolding(crate::specs::DeclarationSyntax::field_item))]
-fn field_item(alloc: Global, text: &str, signs: &mut Signs<'_>, turns: usize) -> Result<RecordItem, Stop>
+fn field_item(
+    alloc: Global,
+    text: &str,
+    signs: &mut Signs<'_>,
+    turns: usize,
+) -> Result<RecordItem, Stop>
     ensures { Reads (spec.field_item text.now turns signs.old) result signs.new }
 {
     let word = signs.expect(Kind::Field)?;

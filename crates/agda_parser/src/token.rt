@@ -126,11 +126,7 @@ fn laid_sign(tokens: &[Token], laid: Laid) -> Sign
     }
 }
 
-pub fn laid_signs(
-    alloc: Global,
-    tokens: &[Token],
-    laid: &[Laid],
-) -> Result<Vec<Sign>, AllocError>
+pub fn laid_signs(alloc: Global, tokens: &[Token], laid: &[Laid]) -> Result<Vec<Sign>, AllocError>
     ensures { IfOk result (λ v. v.items ≡ spec.laid_signs tokens.now laid.now) }
 {
     let mut signs = Vec::new(alloc);

@@ -32,4 +32,3 @@ unfolding more_items many_from
 returns c =
     let e = no_more (λ n. many_from (λ _. one_item c.args.text.now c.args.turns) n c.loop-turn.found c.loop-turn.signs) _ c.loop-turn._turn c.loop-turn-test.false in
     first_of (search rules, grind (arith, common_steps))
-
