@@ -3,6 +3,7 @@
 #![tactic(auto)]
 
 mod decl;
+mod equality;
 mod expr;
 mod pattern;
 mod place;
