@@ -5,6 +5,7 @@
 mod decl;
 mod equality;
 mod expr;
+mod nodes;
 mod pattern;
 mod place;
 
