@@ -7,14 +7,21 @@ use crate::expr::{Arg, Binder, Expr, FieldValue};
 use crate::pattern::Pattern;
 use crate::place::Name;
 
+/// Whether the two declarations are equal, texts, spans and positions included. It takes no memory.
+pub fn same(a: &Decl, b: &Decl) -> bool
+    ensures { IsTrue result ↔ (a.now ≡ b.now) }
+{
+    a.same(b)
+}
+
 /// A part of a tree that is no part of itself.
-trait Same {
+trait Compared {
     fn same(&self, other: &Self) -> bool
         ensures { IsTrue result ↔ (self.now ≡ other.now) };
 }
 
 /// Whether the two lists are equal.
-fn same_items<T: Same>(items: &[T], others: &[T]) -> bool
+fn same_items<T: Compared>(items: &[T], others: &[T]) -> bool
     ensures { IsTrue result ↔ (items.now ≡ others.now) }
 {
     if items.len() != others.len() {
@@ -28,7 +35,7 @@ fn same_items<T: Same>(items: &[T], others: &[T]) -> bool
     true
 }
 
-impl Same for Name {
+impl Compared for Name {
     fn same(&self, other: &Name) -> bool {
         self.same(other)
     }
@@ -328,25 +335,25 @@ impl File {
     }
 }
 
-impl Same for Signature {
+impl Compared for Signature {
     fn same(&self, other: &Signature) -> bool {
         self.same(other)
     }
 }
 
-impl Same for Clause {
+impl Compared for Clause {
     fn same(&self, other: &Clause) -> bool {
         self.same(other)
     }
 }
 
-impl Same for RecordItem {
+impl Compared for RecordItem {
     fn same(&self, other: &RecordItem) -> bool {
         self.same(other)
     }
 }
 
-impl Same for Decl {
+impl Compared for Decl {
     fn same(&self, other: &Decl) -> bool {
         self.same(other)
     }

@@ -10,6 +10,8 @@ mod pattern;
 mod place;
 
 pub use decl::{Clause, Decl, File, RecordItem, Signature};
+pub use equality::same;
 pub use expr::{Arg, Binder, Expr, FieldValue};
+pub use nodes::size;
 pub use pattern::Pattern;
 pub use place::{Name, Place};
