@@ -14,7 +14,8 @@ pub fn same(a: &Decl, b: &Decl) -> bool
     a.same(b)
 }
 
-/// A part of a tree that is no part of itself.
+/// What is compared in lists that no expression and no pattern holds. The lists in those have loops of their own: a recursion through
+/// a type parameter gets no proof.
 trait Compared {
     fn same(&self, other: &Self) -> bool
         ensures { IsTrue result ↔ (self.now ≡ other.now) };

@@ -14,8 +14,10 @@ pub fn size(file: &File) -> u64
     file.size()
 }
 
-/// A part of a tree that is no part of itself.
+/// What is counted in lists that no expression and no pattern holds. The lists in those have loops of their own: a recursion through
+/// a type parameter gets no proof.
 trait Counted {
+    // the number of nodes
     ghost nodes: { Self → ℕ };
 
     fn size(&self) -> u64
