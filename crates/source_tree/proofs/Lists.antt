@@ -1,5 +1,5 @@
 -- Two lists compared place by place, and the sum over a list that stands still at 2^64 - 1.
-use Rattle.std.proofs.Common.{◌≡◌, ◌<◌, ◌≤◌, ◌+◌, ◌-◌, ◌^◌, ℕ, List, [], drop, length, map, min, sum, sym, arith}
+use Rattle.std.proofs.Common.{◌≡◌, ◌≤◌, ◌+◌, ◌-◌, ◌^◌, ℕ, List, drop, length, map, min, sum, sym, arith}
 use Rattle.std.proofs.lemmas.List.{same_lists, at_drop_all}
 use Rattle.std.specs.List.{SameBelow}
 

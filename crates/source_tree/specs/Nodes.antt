@@ -1,6 +1,6 @@
 -- The number of nodes of a tree: each expression, argument, binder, field, pattern, signature, clause, part of a record and
 -- declaration is one, and so is the file. Names, places and the lists between them are none.
-use Rattle.std.specs.Prelude.{ℕ, ◌+◌, List, Option, Some, None, map, sum}
+use Rattle.std.specs.Prelude.{ℕ, ◌+◌, Option, Some, None, map, sum}
 use Rattle.source_tree.specs.declared.expr.Expr.{Expr}
 use Rattle.source_tree.specs.declared.expr.Arg.{Arg}
 use Rattle.source_tree.specs.declared.expr.Binder.{Binder}
