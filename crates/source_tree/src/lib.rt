@@ -3,11 +3,17 @@
 #![tactic(auto)]
 
 mod decl;
+mod equality;
 mod expr;
+mod nodes;
 mod pattern;
 mod place;
+#[cfg(test)]
+mod tests;
 
 pub use decl::{Clause, Decl, File, RecordItem, Signature};
+pub use equality::same;
 pub use expr::{Arg, Binder, Expr, FieldValue};
+pub use nodes::size;
 pub use pattern::Pattern;
 pub use place::{Name, Place};

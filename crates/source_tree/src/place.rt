@@ -1,4 +1,4 @@
-ghost use Rattle.std.specs.Prelude.{◌≡◌};
+ghost use Rattle.std.specs.Prelude.{◌≡◌, ◌↔◌, IsTrue};
 
 use el_outside::{Pos, Span, Text};
 
@@ -24,6 +24,13 @@ impl Place {
             pos: self.pos,
         }
     }
+
+    /// Whether the two are equal: the bytes, the line and the column.
+    pub fn same(&self, other: &Place) -> bool
+        ensures { IsTrue result ↔ (self.now ≡ other.now) }
+    {
+        self == other
+    }
 }
 
 /// A name, or a qualified name with its dot, as the text has it.
@@ -31,4 +38,13 @@ impl Place {
 pub struct Name {
     pub text: Text,
     pub place: Place,
+}
+
+impl Name {
+    /// Whether the two are equal: the text, byte for byte, and the place.
+    pub fn same(&self, other: &Name) -> bool
+        ensures { IsTrue result ↔ (self.now ≡ other.now) }
+    {
+        self.text.as_str() == other.text.as_str() && self.place.same(&other.place)
+    }
 }
