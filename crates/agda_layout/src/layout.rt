@@ -14,7 +14,7 @@ fn alone(alloc: Global, tokens: &[Token]) -> Result<Vec<Laid>, AllocError>
     requires { length tokens.now < 2 ^ 32 }
     ensures { IfOk result (λ v. v.items ≡ spec.alone 0 tokens.now) }
 {
-    let mut out = Vec::new(alloc);
+    let mut out = Vec::with_capacity(alloc, tokens.len())?;
     for (i, _) in tokens.iter().enumerate() {
         out.push(Laid::Tok(i as u32))?;
     }
@@ -26,6 +26,7 @@ fn lay_out_from(mut state: State, tokens: &[Token], from: u32) -> Result<Vec<Lai
     requires { from + length tokens.now < 2 ^ 32 }
     ensures { Gives (λ v. v.items) (spec.out_of (spec.steps (state_of state) from tokens.now)) result }
 {
+    state.reserve(tokens.len())?;
     for (i, token) in tokens.iter().enumerate() {
         state.step(from + i as u32, token)?;
     }

@@ -77,6 +77,13 @@ impl State {
         }
     }
 
+    /// Makes room for so many tokens and for the signs of their blocks, where these are not many.
+    pub fn reserve(&mut self, tokens: usize) -> Result<(), AllocError>
+        ensures { state_of self.new ≡ state_of self.old }
+    {
+        self.out.reserve(tokens.saturating_add(tokens / 2))
+    }
+
     /// Adds an empty block if one was to begin.
     fn empty(&mut self, pos: Pos) -> Result<(), AllocError>
         ensures { OnOk result (state_of self.new ≡ record (state_of self.old) { out = spec.emptied (state_of self.old) pos }) }

@@ -8,6 +8,10 @@ use crate::token::{LexError, Lexed, Token};
 use el_outside::{Cursor, Many, Pos, Span};
 use std::alloc::{AllocError, Global};
 
+// Room for a token in every two bytes is taken before a text is read, but for no more tokens than
+// these: a list that grows step by step is moved, and its new pages cost more than the reading.
+const FIRST_ROOM: usize = 1 << 22;
+
 /// What was found so far.
 #[derive(Drop)]
 pub struct Found {
@@ -42,7 +46,7 @@ pub fn lex(alloc: Global, text: &str) -> Result<Lexed, LexError>
     ensures { Gives (spec.lex_of text.now) result }
 {
     let mut found = Found {
-        tokens: Vec::new(alloc),
+        tokens: Vec::with_capacity(alloc, (text.len() / 2).min(FIRST_ROOM))?,
         comment: None,
     };
     let mut cursor = Cursor::new(text);

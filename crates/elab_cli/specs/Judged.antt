@@ -40,7 +40,7 @@ pub record IsDeclared (old new : Core) (x : List ℕ) (t : Option Term) : Type 0
 -- nothing was declared
 pub record IsNew (k : Core) : Type 0 where
   pub globals : k.globals ≡ []
-  pub names : length k.names ≡ 1
+  pub names : k.names ≡ [] ∷ []
   pub signature : k.signature ≡ []
   pub same : k.same ≡ []
   pub locals : k.locals.items ≡ []

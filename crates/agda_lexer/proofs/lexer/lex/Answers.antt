@@ -3,7 +3,7 @@ use Rattle.agda_lexer.proofs.Turns.{begins, stops, fails, goes}
 use Rattle.agda_lexer.proofs.lexer.lex.Goals as goal
 
 pub pieces-init : goal.pieces-init
-pieces-init c = rw c.new.ensures.items (begins _ _ c.new-cursor.ensures)
+pieces-init c = rw c.in_ok-with_capacity.ensures.items (begins _ _ c.new-cursor.ensures)
 
 pub returns-in-Err : goal.returns-in-Err
 unfolding lex_of
