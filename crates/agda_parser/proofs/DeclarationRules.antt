@@ -1,9 +1,7 @@
 -- Each rule of the grammar of declarations and files is read as the grammar says.
-use Rattle.std.proofs.Common.{◌≡◌, ℕ, ◌≤◌, ◌<◌, ◌+◌, Bool, true, false, List, [], ◌∷◌, ◌++◌, ◌⊎◌, inl, inr, length, map, Option, Some, None, refl, sym, ap, ◌∙◌, arith}
+use Rattle.std.proofs.Common.{◌≡◌, ℕ, Bool, true, false, List, [], ◌∷◌, ◌⊎◌, inl, inr, length, Option, Some, None, refl, sym, ap, ◌∙◌, arith}
 use Rattle.std.proofs.lemmas.List.{append-nil}
-use Rattle.source_tree.specs.declared.place.Name.{Name}
 use Rattle.source_tree.specs.declared.expr.Expr.{Expr}
-use Rattle.source_tree.specs.declared.expr.Binder.{Binder}
 use Rattle.source_tree.specs.declared.pattern.Pattern.{Pattern}
 use Rattle.source_tree.specs.declared.decl.Signature.{Signature}
 use Rattle.source_tree.specs.declared.decl.Clause.{Clause}
@@ -20,18 +18,18 @@ use Rattle.agda_parser.specs.declared.entry.Entry.TheVariants as entry
 use Rattle.agda_parser.specs.Names.{name_of}
 use Rattle.agda_parser.specs.Trees.{tok}
 use Rattle.agda_parser.specs.Signs.{Input, same_kind, is, expect, colon_follows}
-use Rattle.agda_parser.specs.Grammar.{MoreTyped, Derivation, names_then, more_typed_then, more_typed_tree, then, tree}
+use Rattle.agda_parser.specs.Grammar.{Derivation, then, tree}
 use Rattle.agda_parser.specs.Patterns.{Eliminations, eliminations_then, eliminations_tree}
-use Rattle.agda_parser.specs.Declarations.{Declaring, Declares, MoreDeclaring, LastDeclaring, NextDeclaring, Declarings, NoDeclaring, SomeDeclaring, Equation, Without, With, Induction, IsInductive, IsCoinductive, MoreFieldBlocks, LastFieldBlock, NextFieldBlock, RecordItems, NoRecordItem, FieldsAlone, OfInduction, OfConstructor, InductionFirst, ConstructorFirst, Publicity, NotPublic, IsPublic, ItemDerivation, PostulateItem, SignatureItem, ClauseItem, OpenItem, DataItem, RecordItemOf, MoreItems, LastItem, NextItem, Header, NoHeader, Names, NamesQualified, FileDerivation, EmptyFile, SomeFile, declaring_then, more_declaring_then, declarings_then, equation_then, induction_then, field_blocks_then, record_items_then, publicity_then, item_then, more_items_then, header_then, file_then, last_signature, last_item, named_place, signature, clause, field_block, text_place, declaring_tree, more_declaring_tree, declarings_tree, equation_tree, induction_tree, constructor_tree, field_blocks_tree, record_items_tree, item_tree, more_items_tree, file_tree}
+use Rattle.agda_parser.specs.Declarations.{Declaring, Declares, MoreDeclaring, LastDeclaring, NextDeclaring, Declarings, NoDeclaring, SomeDeclaring, Equation, Without, With, Induction, IsInductive, IsCoinductive, MoreFieldBlocks, LastFieldBlock, NextFieldBlock, RecordItems, NoRecordItem, FieldsAlone, OfInduction, OfConstructor, InductionFirst, ConstructorFirst, NotPublic, IsPublic, ItemDerivation, PostulateItem, SignatureItem, ClauseItem, OpenItem, DataItem, RecordItemOf, MoreItems, LastItem, NextItem, Header, NoHeader, Names, NamesQualified, FileDerivation, EmptyFile, SomeFile, declaring_then, more_declaring_then, declarings_then, equation_then, induction_then, field_blocks_then, record_items_then, publicity_then, item_then, more_items_then, header_then, file_then, last_signature, last_item, named_place, signature, clause, field_block, text_place, declaring_tree, more_declaring_tree, declarings_tree, equation_tree, induction_tree, constructor_tree, field_blocks_tree, record_items_tree, item_tree, more_items_tree, file_tree}
 use Rattle.agda_parser.specs.Groups.{grouped}
 use Rattle.agda_parser.specs.Syntax.{name, names, one_name, expr}
 use Rattle.agda_parser.specs.PatternSyntax.{elims, pattern}
 use Rattle.agda_parser.specs.DeclarationSyntax.{is_induction, declaring, one_declaring, more_declaring, inner_declarings, declarings, right_side, sides, equation, induction, constructor_item, field_item, one_field_item, more_field_items, second_item, record_items, postulate_item, publicity, open_item, data_item, record_item, named_item, item, one_item, more_items, inner_items, module_name, header, file, whole_file}
-use Rattle.parse_laws.specs.Parser.{◌>>=◌, pure, one, next_is, choose, with_taken, many_from}
-use Rattle.parse_laws.proofs.Good.{Language, Family, Good, Seq, bind_good, pure_good, weaken, shorten, choose_good, TakenWith, taken_good, ended_good, UpTo, good_up, bind_up, taken_up}
+use Rattle.parse_laws.specs.Parser.{◌>>=◌, pure, one, with_taken, many_from}
+use Rattle.parse_laws.proofs.Good.{Language, Family, Good, Seq, bind_good, pure_good, weaken, shorten, choose_good, taken_good, ended_good, good_up, bind_up, taken_up}
 use Rattle.parse_laws.proofs.Many.{AllOf, Item, Behind, many_good, optional_good}
 use Rattle.parse_laws.proofs.Look.{lined, lined_longer, look_good}
-use Rattle.agda_parser.proofs.Steps.{Spells, both, single, nothing, As, long_as, all_of, Is, expect_good}
+use Rattle.agda_parser.proofs.Steps.{both, single, nothing, As, long_as, all_of, Is, expect_good}
 use Rattle.agda_parser.proofs.NameRules.{name_good, names_good, all_names, name_is, over_colon, names_up, lined_count, left_eats}
 use Rattle.agda_parser.proofs.Rules.{Derives, more_typed_good, all_typed, expr_good}
 use Rattle.agda_parser.proofs.PatternRules.{all_elims, elims_good, elims_eats, pattern_good, pattern_eats}

@@ -1,5 +1,5 @@
 -- A clause that is not put to the function before it.
-use Rattle.std.proofs.Common.{◌≡◌, Bool, false, cond, Option, Some, None, subst, List, [], ◌∷◌, ◌++◌, sym, ap, ◌∙◌, append_assoc}
+use Rattle.std.proofs.Common.{◌≡◌, Bool, false, cond, Some, None, subst, List, [], ◌∷◌, ◌++◌, sym, ap, ◌∙◌, append_assoc}
 use Rattle.source_tree.specs.declared.place.Place.{Place}
 use Rattle.source_tree.specs.declared.decl.Signature.{Signature}
 use Rattle.source_tree.specs.declared.decl.Clause.{Clause}

@@ -1,5 +1,5 @@
 -- Names, and the lookahead that goes over them.
-use Rattle.std.proofs.Common.{◌≡◌, ℕ, zero, suc, ◌≤◌, ◌<◌, ◌+◌, true, false, List, [], ◌∷◌, ◌++◌, length, map, Ok, refl, sym, ap, ◌∙◌, arith}
+use Rattle.std.proofs.Common.{◌≡◌, ℕ, zero, suc, ◌≤◌, true, false, List, [], ◌∷◌, ◌++◌, length, map, Ok, refl, sym, ap, ◌∙◌, arith}
 use Rattle.source_tree.specs.declared.place.Name.{Name}
 use Rattle.agda_parser.specs.declared.sign.Kind.TheVariants as k
 use Rattle.agda_parser.specs.declared.sign.Mark.{Mark}
@@ -12,7 +12,7 @@ use Rattle.agda_parser.specs.Syntax.{name, one_name, names}
 use Rattle.parse_laws.specs.Parser.{pure, one, next_is, many_from}
 use Rattle.parse_laws.proofs.Good.{Language, Family, Good, Agree, bind_good, pure_good, weaken, UpTo}
 use Rattle.parse_laws.proofs.Many.{AllOf, Item, Behind, many_good, optional_good}
-use Rattle.parse_laws.proofs.Look.{lined, lined_longer, Eats, LooksOver}
+use Rattle.parse_laws.proofs.Look.{lined, Eats, LooksOver}
 use Rattle.agda_parser.proofs.Steps.{Gives, both, single, nothing, As, long_as, all_of, is_tok, Is, expect_good}
 
 -- ---- names

@@ -1,8 +1,7 @@
 -- A list of signs has one answer at most, and one that is refused has no derivation in which nothing is nested too deep.
-use Rattle.std.proofs.Common.{◌≡◌, ◌≢◌, ℕ, zero, suc, ◌≤◌, ◌<◌, ◌+◌, List, [], ◌∷◌, ◌++◌, length, Result, Ok, Err, refl, sym, ap, subst, ◌∙◌, append_assoc, arith}
+use Rattle.std.proofs.Common.{◌≡◌, ◌≢◌, ℕ, zero, suc, ◌≤◌, ◌<◌, List, [], ◌∷◌, ◌++◌, length, Result, Ok, Err, refl, sym, ap, subst, ◌∙◌, append_assoc, arith}
 use Rattle.std.proofs.lemmas.List.{append-nil, length-append}
 use Rattle.el_outside.specs.declared.place.Pos.{Pos}
-use Rattle.agda_parser.specs.declared.sign.Sign.{Sign}
 use Rattle.agda_parser.specs.declared.error.ParseError.{ParseError}
 use Rattle.agda_parser.specs.declared.error.ParseError.TheVariants.{Bad, NoMemory}
 use Rattle.agda_parser.specs.declared.error.ParseKind.{ParseKind}

@@ -1,15 +1,13 @@
 -- What has a derivation as a pattern is read, with turns enough.
-use Rattle.std.proofs.Common.{◌≡◌, ℕ, zero, suc, ◌≤◌, ◌+◌, Bool, true, false, List, [], ◌∷◌, ◌++◌, Ok, refl, sym, ap, ◌∙◌, append_assoc, arith}
+use Rattle.std.proofs.Common.{◌≡◌, ℕ, zero, suc, ◌≤◌, ◌+◌, true, false, List, [], ◌∷◌, ◌++◌, Ok, refl, sym, ap, ◌∙◌, append_assoc, arith}
 use Rattle.std.proofs.lemmas.List.{append-nil}
 use Rattle.source_tree.specs.declared.pattern.Pattern.{Pattern}
 use Rattle.agda_parser.specs.declared.sign.Kind.TheVariants as k
 use Rattle.agda_parser.specs.declared.sign.Mark.{Mark}
-use Rattle.agda_parser.specs.declared.sign.Sign.{Sign}
 use Rattle.agda_parser.specs.declared.bracket.Bracket.TheVariants.{Round}
 use Rattle.agda_parser.specs.Trees.{tok}
-use Rattle.agda_parser.specs.Signs.{Input, same_kind, is, sees, expect, names_colon, equals_follows}
-use Rattle.agda_parser.specs.Grammar.{then}
-use Rattle.agda_parser.specs.Patterns.{Matching, Simple, Matched, SimplePattern, PatternName, PatternBlank, PatternAbsurd, PatternParen, PatternDotted, Elimination, Explicit, Implicit, EquatedPattern, Projection, ProjectionQualified, Eliminations, NoElimination, MoreElimination, matching_then, simple_then, elimination_then, eliminations_then, matched, matching_tree, elimination_tree, eliminations_tree}
+use Rattle.agda_parser.specs.Signs.{Input, same_kind, sees, expect, names_colon, equals_follows}
+use Rattle.agda_parser.specs.Patterns.{Matching, Simple, Matched, SimplePattern, PatternName, PatternBlank, PatternAbsurd, PatternParen, PatternDotted, Elimination, Explicit, Implicit, EquatedPattern, Projection, ProjectionQualified, Eliminations, NoElimination, MoreElimination, matching_then, elimination_then, eliminations_then, matched, matching_tree, elimination_tree, eliminations_tree}
 use Rattle.agda_parser.specs.Syntax.{name}
 use Rattle.agda_parser.specs.PatternSyntax.{begins_elim, round_pattern, dotted_pattern, named_elim, implicit_elim, braced_elim, dot_elim, elimination, one_elim, elims, pattern_level, pattern}
 use Rattle.parse_laws.specs.Parser.{one, next_is, many_from}

@@ -1,6 +1,5 @@
 -- Each rule of the grammar of patterns is read as the grammar says.
-use Rattle.std.proofs.Common.{◌≡◌, ℕ, zero, suc, ◌≤◌, ◌<◌, ◌+◌, true, false, List, [], ◌∷◌, ◌++◌, length, Ok, Err, refl, sym, ap, ◌∙◌, arith}
-use Rattle.source_tree.specs.declared.place.Name.{Name}
+use Rattle.std.proofs.Common.{◌≡◌, ℕ, zero, suc, ◌≤◌, ◌<◌, ◌+◌, true, false, List, [], ◌∷◌, ◌++◌, length, refl, sym, ap, ◌∙◌, arith}
 use Rattle.source_tree.specs.declared.pattern.Pattern.{Pattern}
 use Rattle.source_tree.specs.declared.pattern.Pattern.TheVariants as p
 use Rattle.source_tree.specs.declared.expr.Expr.{Expr}
@@ -12,17 +11,16 @@ use Rattle.agda_parser.specs.declared.sign.Sign.{Sign}
 use Rattle.agda_parser.specs.Names.{name_of}
 use Rattle.agda_parser.specs.Trees.{tok}
 use Rattle.agda_parser.specs.Signs.{Input, same_kind, is, expect, equals_follows}
-use Rattle.agda_parser.specs.Grammar.{Derivation, then, tree}
 use Rattle.agda_parser.specs.Patterns.{Matching, Simple, Matched, SimplePattern, PatternName, PatternBlank, PatternAbsurd, PatternParen, PatternDotted, Elimination, Explicit, Implicit, EquatedPattern, Projection, ProjectionQualified, Eliminations, NoElimination, MoreElimination, matching_then, simple_then, elimination_then, eliminations_then, matched, matching_tree, simple_tree, elimination_tree, eliminations_tree}
-use Rattle.agda_parser.specs.Syntax.{name, expr}
+use Rattle.agda_parser.specs.Syntax.{name}
 use Rattle.agda_parser.specs.PatternSyntax.{begins_elim, round_pattern, dotted_pattern, named_elim, implicit_elim, braced_elim, dot_elim, elimination, one_elim, elims, pattern_level, pattern}
-use Rattle.parse_laws.specs.Parser.{Outcome, ◌>>=◌, ◌>>◌, pure, one, next_is, many_from}
-use Rattle.parse_laws.proofs.Good.{Language, Family, Good, Seq, bind_good, pure_good, weaken, shorten, choose_good, deeper_good, UpTo, good_up, bind_up}
+use Rattle.parse_laws.specs.Parser.{◌>>=◌, ◌>>◌, pure, one, next_is, many_from}
+use Rattle.parse_laws.proofs.Good.{Language, Good, bind_good, pure_good, weaken, choose_good, deeper_good, UpTo, good_up, bind_up}
 use Rattle.parse_laws.proofs.Many.{AllOf, Item, Behind, many_good, optional_good, turns_up}
 use Rattle.parse_laws.proofs.Look.{lined, lined_longer, look_good}
-use Rattle.agda_parser.proofs.Steps.{Spells, both, single, nothing, in_front, As, AsBehind, of_parts, long_as, all_of, Is, expect_good, after_sign}
-use Rattle.agda_parser.proofs.NameRules.{IsName, name_good, name_is, over_equals, left_eats}
-use Rattle.agda_parser.proofs.Rules.{Derives, expr_good}
+use Rattle.agda_parser.proofs.Steps.{both, single, nothing, in_front, As, AsBehind, of_parts, long_as, all_of, expect_good, after_sign}
+use Rattle.agda_parser.proofs.NameRules.{name_good, name_is, over_equals, left_eats}
+use Rattle.agda_parser.proofs.Rules.{expr_good}
 
 module _ (text : List ℕ) where
   abbrev pub IsPattern : Language Sign Pattern

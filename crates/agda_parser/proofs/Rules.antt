@@ -1,5 +1,5 @@
 -- Each rule of the grammar of expressions is read as the grammar says.
-use Rattle.std.proofs.Common.{◌≡◌, ℕ, zero, suc, ◌≤◌, ◌<◌, ◌+◌, true, false, List, [], ◌∷◌, ◌++◌, ◌⊎◌, inl, inr, length, map, Ok, Err, refl, sym, ap, ◌∙◌, arith}
+use Rattle.std.proofs.Common.{◌≡◌, ℕ, zero, suc, ◌≤◌, ◌<◌, ◌+◌, true, false, List, [], ◌∷◌, ◌++◌, ◌⊎◌, inl, inr, length, map, refl, sym, ap, ◌∙◌, arith}
 use Rattle.source_tree.specs.declared.place.Name.{Name}
 use Rattle.source_tree.specs.declared.expr.Expr.{Expr}
 use Rattle.source_tree.specs.declared.expr.Expr.TheVariants as e
@@ -18,13 +18,13 @@ use Rattle.agda_parser.specs.declared.bracket.Bracket.TheVariants.{Round, Curly}
 use Rattle.agda_parser.specs.declared.quantifier.Quantifier.TheVariants as q
 use Rattle.agda_parser.specs.Names.{name_of}
 use Rattle.agda_parser.specs.Trees.{tok, open_of, close_of, typed_binder, applied}
-use Rattle.agda_parser.specs.Signs.{Input, same_kind, is, expect, begins_atom, names_colon, colon_follows, equals_follows}
+use Rattle.agda_parser.specs.Signs.{Input, same_kind, is, expect, begins_atom, colon_follows, equals_follows}
 use Rattle.agda_parser.specs.Grammar.{Atom, Named, Qualified, Level, Hole, Blank, Paren, Record, NoField, Field, LastField, NextField, Argument, Plain, Braced, Equated, Projected, ProjectedQualified, Arguments, NoArgument, More, Typed, Typing, MoreTyped, LastTyped, NextTyped, Bound, BoundName, BoundBraced, BoundTyped, LastBound, NextBound, LambdaBound, BoundBlank, BoundAs, LastLambdaBound, NextLambdaBound, Derivation, Pi, Forall, Lambda, App, Arrow, names_then, atom_then, fields_then, more_fields_then, argument_then, arguments_then, typed_then, more_typed_then, bound_then, more_bound_then, lambda_bound_then, more_lambda_bound_then, then, atom_tree, fields_tree, more_fields_tree, argument_tree, arguments_tree, typed_tree, more_typed_tree, bound_tree, more_bound_tree, lambda_bound_tree, more_lambda_bound_tree, tree}
 use Rattle.agda_parser.specs.Syntax.{begins_typed, begins_arg, begins_bound, begins_binder, name, one_name, names, typed_from, typed_after, typed, one_typed, more_typed, pi_from, paren_after, field, one_field, more_fields, fields, record_atom, simple_atom, named_arg, implicit_arg, braced_arg, project_arg, arg, one_arg, args, arrow_tail, app_from, after_paren, braced_from, bound, lambda_bound, binder, one_binder, binders, quantified, level, expr}
-use Rattle.parse_laws.specs.Parser.{Outcome, ◌>>=◌, pure, one, next_is, many_from}
-use Rattle.parse_laws.proofs.Good.{Language, Family, Good, Seq, Agree, GoodFor, bind_good, pure_good, weaken, shorten, choose_good, deeper_good, UpTo, good_up, bind_up}
+use Rattle.parse_laws.specs.Parser.{◌>>=◌, pure, one, next_is, many_from}
+use Rattle.parse_laws.proofs.Good.{Language, Good, Seq, bind_good, pure_good, weaken, shorten, choose_good, deeper_good, UpTo, good_up, bind_up}
 use Rattle.parse_laws.proofs.Many.{AllOf, Item, Behind, many_good, optional_good, turns_up}
-use Rattle.parse_laws.proofs.Look.{lined, lined_longer, Eats, LooksOver, look_good}
+use Rattle.parse_laws.proofs.Look.{lined, lined_longer, look_good}
 use Rattle.agda_parser.proofs.Steps.{Gives, Spells, both, single, nothing, in_front, As, AsBehind, of_parts, long_as, all_of, Is, expect_good, after_sign}
 use Rattle.agda_parser.proofs.NameRules.{IsName, name_good, names_good, all_names, name_is, over_colon, over_equals, names_up, lined_count, left_eats}
 

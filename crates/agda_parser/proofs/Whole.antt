@@ -2,7 +2,6 @@
 use Rattle.std.proofs.Common.{◌≡◌, ℕ, suc, ◌≤◌, ◌+◌, Bool, true, false, cond, nat_lt, List, [], ◌∷◌, length, Ok, refl, arith}
 use Rattle.source_tree.specs.declared.expr.Expr.{Expr}
 use Rattle.source_tree.specs.declared.decl.File.{File}
-use Rattle.agda_parser.specs.declared.sign.Sign.{Sign}
 use Rattle.agda_parser.specs.Nesting.{Depth, shallow, nesting, behind, limit}
 use Rattle.agda_parser.specs.Signs.{Input}
 use Rattle.agda_parser.specs.Grammar.{Derivation, then, tree}

@@ -1,6 +1,5 @@
 -- The parser of declarations and files by descent, as a function on lists, over those of expressions and patterns.
 use Rattle.std.specs.Prelude.{ℕ, Bool, true, false, if◌then◌else◌, List, [], ◌∷◌, Option, Some, None}
-use Rattle.source_tree.specs.declared.place.Name.{Name}
 use Rattle.source_tree.specs.declared.expr.Expr.{Expr}
 use Rattle.source_tree.specs.declared.pattern.Pattern.{Pattern}
 use Rattle.source_tree.specs.declared.decl.Signature.{Signature}
@@ -16,7 +15,7 @@ use Rattle.agda_parser.specs.declared.sign.Sign.{Sign}
 use Rattle.agda_parser.specs.declared.entry.Entry.{Entry}
 use Rattle.agda_parser.specs.declared.entry.Entry.TheVariants as entry
 use Rattle.agda_parser.specs.Names.{name_of}
-use Rattle.agda_parser.specs.Signs.{Input, is, expect, colon_follows}
+use Rattle.agda_parser.specs.Signs.{is, expect, colon_follows}
 use Rattle.agda_parser.specs.Syntax.{name, names, expr, more_typed}
 use Rattle.agda_parser.specs.PatternSyntax.{pattern, elims}
 use Rattle.agda_parser.specs.Declarations.{last_signature, last_item, named_place, signature, clause, field_block, text_place}

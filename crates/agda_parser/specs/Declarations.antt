@@ -1,7 +1,6 @@
 -- The grammar of declarations and files, over those of expressions and patterns. A derivation is a value of these types: one constructor for each
 -- alternative, with the marks of its signs.
-use Rattle.std.specs.Prelude.{ℕ, Bool, true, false, List, [], ◌∷◌, ◌++◌, map, length, Option, Some, None}
-use Rattle.el_outside.specs.declared.place.Pos.{Pos}
+use Rattle.std.specs.Prelude.{ℕ, true, false, List, [], ◌∷◌, map, length, Option, Some, None}
 use Rattle.source_tree.specs.declared.place.Place.{Place}
 use Rattle.source_tree.specs.declared.place.Name.{Name}
 use Rattle.source_tree.specs.declared.pattern.Pattern.{Pattern}
@@ -10,7 +9,6 @@ use Rattle.source_tree.specs.declared.decl.Signature.{Signature}
 use Rattle.source_tree.specs.declared.decl.Clause.{Clause}
 use Rattle.source_tree.specs.declared.decl.RecordItem.{RecordItem}
 use Rattle.source_tree.specs.declared.decl.RecordItem.TheVariants as r
-use Rattle.source_tree.specs.declared.decl.Decl.{Decl}
 use Rattle.source_tree.specs.declared.decl.Decl.TheVariants as d
 use Rattle.source_tree.specs.declared.decl.File.{File}
 use Rattle.source_tree.specs.Places.{joined, expr_place}

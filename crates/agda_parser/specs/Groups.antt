@@ -1,9 +1,7 @@
 -- How items become declarations: a signature and the clauses of its name that follow it at once are one declaration; any other clause is one of its own.
 use Rattle.std.specs.Prelude.{Bool, false, if◌then◌else◌, List, [], ◌∷◌, ◌++◌, Option, Some, None}
 use Rattle.std.specs.Str.{bytes_eq}
-use Rattle.source_tree.specs.declared.place.Place.{Place}
 use Rattle.source_tree.specs.declared.place.Name.{Name}
-use Rattle.source_tree.specs.declared.decl.Signature.{Signature}
 use Rattle.source_tree.specs.declared.decl.Clause.{Clause}
 use Rattle.source_tree.specs.declared.decl.Decl.{Decl}
 use Rattle.source_tree.specs.declared.decl.Decl.TheVariants as d

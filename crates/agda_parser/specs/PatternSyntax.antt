@@ -1,5 +1,5 @@
 -- The parser of patterns by descent, as a function on lists, over that of expressions.
-use Rattle.std.specs.Prelude.{ℕ, zero, suc, Bool, true, if◌then◌else◌, List, [], ◌∷◌, length, Option, Err}
+use Rattle.std.specs.Prelude.{ℕ, zero, suc, Bool, true, if◌then◌else◌, List, [], length, Option, Err}
 use Rattle.source_tree.specs.declared.pattern.Pattern.{Pattern}
 use Rattle.source_tree.specs.declared.pattern.Pattern.TheVariants as p
 use Rattle.source_tree.specs.Places.{joined}

@@ -1,4 +1,4 @@
-use Rattle.std.proofs.Common.{◌≡◌, ◌<◌, ◌+◌, length, arith, rules}
+use Rattle.std.proofs.Common.{◌≡◌, ◌+◌, length, arith, rules}
 use Rattle.std.proofs.lemmas.Grind.{common_steps}
 use Rattle.agda_parser.specs.Nesting.{origin, shallow}
 use Rattle.agda_parser.proofs.Verdict.{whole_left, whole_settles, front_left, front_settles}

@@ -1,4 +1,4 @@
-use Rattle.std.proofs.Common.{◌≡◌, ◌+◌, ◌*◌, ◌-◌, []}
+use Rattle.std.proofs.Common.{◌≡◌, ◌+◌, ◌*◌, ◌-◌}
 use Rattle.agda_parser.specs.PatternSyntax.{pattern, one_elim, elims}
 use Rattle.parse_laws.specs.Parser.{many_from}
 use Rattle.agda_parser.proofs.patterns.+pattern.Given as goal
