@@ -1,13 +1,14 @@
 -- The count of nesting over signs is that over a derivation.
-use Rattle.std.proofs.Common.{◌≡◌, ℕ, ◌+◌, Bool, cond, nat_lt, List, [], ◌∷◌, refl, ap, ◌∙◌}
+use Rattle.std.proofs.Common.{◌≡◌, ℕ, List, [], ◌∷◌, refl, ap, ◌∙◌}
 use Rattle.agda_parser.specs.declared.sign.Kind.TheVariants as k
 use Rattle.agda_parser.specs.declared.sign.Mark.{Mark}
 use Rattle.agda_parser.specs.declared.sign.Sign.{Sign}
 use Rattle.agda_parser.specs.declared.bracket.Bracket.TheVariants.{Round, Curly}
 use Rattle.agda_parser.specs.Trees.{tok}
 use Rattle.agda_parser.specs.Grammar.{Atom, Named, Qualified, Level, Hole, Blank, Paren, Record, Fields, NoField, Field, MoreFields, LastField, NextField, Argument, Plain, Braced, Equated, Projected, ProjectedQualified, Arguments, NoArgument, More, Typed, Typing, MoreTyped, LastTyped, NextTyped, Bound, BoundName, BoundBraced, BoundTyped, MoreBound, LastBound, NextBound, LambdaBound, BoundBlank, BoundAs, MoreLambdaBound, LastLambdaBound, NextLambdaBound, Derivation, Pi, Forall, Lambda, App, Arrow, names_then, atom_then, fields_then, more_fields_then, argument_then, arguments_then, typed_then, more_typed_then, bound_then, more_bound_then, lambda_bound_then, more_lambda_bound_then, then}
-use Rattle.agda_parser.specs.Nesting.{limit, rise, Depth, origin, nesting, behind, shallow}
-use Rattle.agda_parser.specs.Depths.{names_depths, atom_depths, fields_depths, more_fields_depths, argument_depths, arguments_depths, typed_depths, more_typed_depths, bound_depths, more_bound_depths, lambda_bound_depths, more_lambda_bound_depths, depths, nestings, leading}
+use Rattle.agda_parser.specs.Nesting.{limit, rise, Depth, origin, nesting, behind, nestings, shallow, leading}
+use Rattle.parse_laws.proofs.Limit as count
+use Rattle.agda_parser.specs.Depths.{names_depths, atom_depths, fields_depths, more_fields_depths, argument_depths, arguments_depths, typed_depths, more_typed_depths, bound_depths, more_bound_depths, lambda_bound_depths, more_lambda_bound_depths, depths}
 
 abbrev pub at : ℕ → List ℕ → Depth
 at n ns = record { now = n; outer = ns }
@@ -101,12 +102,8 @@ mutual
 pub whole_counted : (d : Derivation) → nestings origin (then d []) ≡ depths d 0 []
 whole_counted d = counted d 0 [] []
 
-either : (b : Bool) (m n : ℕ) → m ≡ n → cond b 0 (m + 1) ≡ cond b 0 (n + 1)
-either b m n e = ap (λ (x : ℕ). cond b 0 (x + 1)) e
-
 pub shallow_counted : (d : Depth) (i : List Sign) → shallow d i ≡ leading (nestings d i)
-shallow_counted d [] = refl
-shallow_counted d (s ∷ i) = either (nat_lt limit (nesting d s.kind)) (shallow (behind d s.kind) i) (leading (nestings (behind d s.kind) i)) (shallow_counted (behind d s.kind) i)
+shallow_counted = count.shallow_counted (λ d s. nesting d s.kind) (λ d s. behind d s.kind) limit
 
 pub derivation_counted : (d : Derivation) → shallow origin (then d []) ≡ leading (depths d 0 [])
 derivation_counted d = shallow_counted origin (then d []) ∙ ap leading (whole_counted d)

@@ -7,8 +7,8 @@ use Rattle.agda_parser.specs.Trees.{tok}
 use Rattle.agda_parser.specs.Grammar.{then}
 use Rattle.agda_parser.specs.Patterns.{Matching, Simple, Matched, SimplePattern, PatternName, PatternBlank, PatternAbsurd, PatternParen, PatternDotted, Elimination, Explicit, Implicit, EquatedPattern, Projection, ProjectionQualified, Eliminations, NoElimination, MoreElimination, matching_then, simple_then, elimination_then, eliminations_then}
 use Rattle.agda_parser.specs.Declarations.{Declaring, Declares, MoreDeclaring, LastDeclaring, NextDeclaring, Declarings, NoDeclaring, SomeDeclaring, Equation, Without, With, IsInductive, IsCoinductive, MoreFieldBlocks, LastFieldBlock, NextFieldBlock, RecordItems, NoRecordItem, FieldsAlone, OfInduction, OfConstructor, InductionFirst, ConstructorFirst, NotPublic, IsPublic, ItemDerivation, PostulateItem, SignatureItem, ClauseItem, OpenItem, DataItem, RecordItemOf, MoreItems, LastItem, NextItem, Header, NoHeader, Names, NamesQualified, FileDerivation, EmptyFile, SomeFile, declaring_then, more_declaring_then, declarings_then, equation_then, field_blocks_then, record_items_then, item_then, more_items_then, header_then, file_then}
-use Rattle.agda_parser.specs.Nesting.{rise, origin, shallow}
-use Rattle.agda_parser.specs.Depths.{names_depths, depths, more_typed_depths, nestings, leading}
+use Rattle.agda_parser.specs.Nesting.{rise, origin, nestings, shallow, leading}
+use Rattle.agda_parser.specs.Depths.{names_depths, depths, more_typed_depths}
 use Rattle.agda_parser.specs.FileDepths.{matching_depths, simple_depths, elimination_depths, eliminations_depths, declaring_depths, more_declaring_depths, declarings_depths, equation_depths, field_blocks_depths, record_items_depths, item_depths, more_items_depths, header_depths, file_depths}
 use Rattle.agda_parser.proofs.Depths.{at, out, names_counted, more_typed_counted, counted, shallow_counted}
 

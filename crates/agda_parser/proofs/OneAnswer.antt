@@ -7,7 +7,8 @@ use Rattle.agda_parser.specs.declared.error.ParseError.TheVariants.{Bad, NoMemor
 use Rattle.agda_parser.specs.declared.error.ParseKind.{ParseKind}
 use Rattle.agda_parser.specs.declared.error.ParseKind.TheVariants.{Unexpected, TooNested}
 use Rattle.agda_parser.specs.Nesting.{origin, shallow}
-use Rattle.agda_parser.specs.Reading.{IsViable, IsWrong, IsCause, IsRefused, Settles, place_at, end_pos}
+use Rattle.agda_parser.specs.Reading.{IsCause, IsRefused, Settles, place_at, end_pos}
+use Rattle.parse_laws.specs.Reading.{IsViable, IsWrong}
 use Rattle.agda_parser.specs.Signs.{Input}
 
 module _ {D : Type 0} (f : D → Input → Input) where

@@ -7,7 +7,8 @@ use Rattle.agda_parser.specs.declared.sign.Sign.{Sign}
 use Rattle.agda_parser.specs.declared.error.ParseError.TheVariants.{Bad}
 use Rattle.agda_parser.specs.declared.error.ParseKind.TheVariants.{Unexpected, TooNested}
 use Rattle.agda_parser.specs.Nesting.{origin, shallow}
-use Rattle.agda_parser.specs.Reading.{IsViable, IsWrong, Settles, place_at, end_pos}
+use Rattle.agda_parser.specs.Reading.{Settles, place_at, end_pos}
+use Rattle.parse_laws.specs.Reading.{IsViable, IsWrong}
 use Rattle.agda_parser.specs.declared.stop.Stop.{Stop}
 use Rattle.agda_parser.specs.declared.stop.Stop.TheVariants as stop
 use Rattle.agda_parser.specs.Refusals.{LeftUpTo, whole_answer, front_refusal}

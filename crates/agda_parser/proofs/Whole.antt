@@ -1,5 +1,5 @@
 -- One expression, or one file, and nothing behind it.
-use Rattle.std.proofs.Common.{◌≡◌, ℕ, suc, ◌≤◌, ◌+◌, Bool, true, false, cond, nat_lt, List, [], ◌∷◌, length, Ok, refl, arith}
+use Rattle.std.proofs.Common.{◌≡◌, ℕ, ◌≤◌, List, [], length, Ok, refl}
 use Rattle.source_tree.specs.declared.expr.Expr.{Expr}
 use Rattle.source_tree.specs.declared.decl.File.{File}
 use Rattle.agda_parser.specs.Nesting.{Depth, shallow, nesting, behind, limit}
@@ -8,6 +8,7 @@ use Rattle.agda_parser.specs.Grammar.{Derivation, then, tree}
 use Rattle.agda_parser.specs.Syntax.{expr, whole_expr}
 use Rattle.agda_parser.specs.DeclarationSyntax.{file, whole_file}
 use Rattle.parse_laws.specs.Parser.{at_end}
+use Rattle.parse_laws.proofs.Limit as count
 use Rattle.parse_laws.proofs.Good.{Good, ended_good, ended_ends}
 use Rattle.agda_parser.proofs.Steps.{As}
 use Rattle.agda_parser.proofs.Rules.{expr_good}
@@ -33,11 +34,6 @@ module _ (text : List ℕ) where
   unfolding whole_file
   file_ends n = ended_ends (file text n)
 
-either : (b : Bool) (m n : ℕ) → m ≤ n → cond b 0 (m + 1) ≤ suc n
-either true m n le = omega arith
-either false m n le = omega arith
-
 -- no more signs stand before the first that is nested too deep than there are
 pub none_deep : (d : Depth) (i : Input) → shallow d i ≤ length i
-none_deep d [] = omega arith
-none_deep d (s ∷ i) = either (nat_lt limit (nesting d s.kind)) (shallow (behind d s.kind) i) (length i) (none_deep (behind d s.kind) i)
+none_deep = count.none_deep (λ d s. nesting d s.kind) (λ d s. behind d s.kind) limit

@@ -1,10 +1,9 @@
 -- The nesting of each sign of a derivation that stands at a nesting itself, in front of others: one more inside parentheses and braces, in the body of
 -- `λ` and on the right side of an arrow. The count stands still above the limit.
-use Rattle.std.specs.Prelude.{ℕ, ◌+◌, if◌then◌else◌, List, [], ◌∷◌, nat_lt}
+use Rattle.std.specs.Prelude.{ℕ, List, [], ◌∷◌}
 use Rattle.agda_parser.specs.declared.sign.Mark.{Mark}
-use Rattle.agda_parser.specs.declared.sign.Sign.{Sign}
 use Rattle.agda_parser.specs.Grammar.{Atom, Named, Qualified, Level, Hole, Blank, Paren, Record, Fields, NoField, Field, MoreFields, LastField, NextField, Argument, Plain, Braced, Equated, Projected, ProjectedQualified, Arguments, NoArgument, More, Typed, Typing, MoreTyped, LastTyped, NextTyped, Bound, BoundName, BoundBraced, BoundTyped, MoreBound, LastBound, NextBound, LambdaBound, BoundBlank, BoundAs, MoreLambdaBound, LastLambdaBound, NextLambdaBound, Derivation, Pi, Forall, Lambda, App, Arrow}
-use Rattle.agda_parser.specs.Nesting.{limit, rise, Depth, nesting, behind}
+use Rattle.agda_parser.specs.Nesting.{rise}
 
 -- n for each name
 abbrev pub names_depths : List Mark → ℕ → List ℕ → List ℕ
@@ -70,13 +69,3 @@ abbrev mutual
   depths (Lambda m x xs w d) n rest = n ∷ lambda_bound_depths x n (more_lambda_bound_depths xs n (n ∷ depths d (rise n) rest))
   depths (App x xs) n rest = atom_depths x n (arguments_depths xs n rest)
   depths (Arrow x xs w d) n rest = atom_depths x n (arguments_depths xs n (n ∷ depths d (rise n) rest))
-
--- the nesting of each sign of a list
-abbrev pub nestings : Depth → List Sign → List ℕ
-nestings d [] = []
-nestings d (s ∷ i) = nesting d s.kind ∷ nestings (behind d s.kind) i
-
--- how many come before the first above the limit
-abbrev pub leading : List ℕ → ℕ
-leading [] = 0
-leading (n ∷ ns) = if nat_lt limit n then 0 else leading ns + 1

@@ -1,6 +1,7 @@
 -- The nesting of a sign: how many pairs of parentheses, pairs of braces, bodies of `λ` and right sides of arrows it stands in.
 -- A parenthesis or a brace does not stand in its own pair. The count stands still above the limit.
 use Rattle.std.specs.Prelude.{ℕ, ◌+◌, if◌then◌else◌, List, [], ◌∷◌, nat_lt}
+use Rattle.parse_laws.specs.Nesting as count
 use Rattle.agda_parser.specs.declared.sign.Kind.{Kind}
 use Rattle.agda_parser.specs.declared.sign.Kind.TheVariants as k
 use Rattle.agda_parser.specs.declared.sign.Sign.{Sign}
@@ -55,7 +56,14 @@ behind d k.BlockNext = origin
 behind d k.BlockClose = origin
 behind d _ = d
 
+-- the nesting of each sign of a list
+abbrev pub nestings : Depth → List Sign → List ℕ
+nestings = count.nestings (λ d s. nesting d s.kind) (λ d s. behind d s.kind)
+
 -- how many signs stand before the first whose nesting is above the limit
 abbrev pub shallow : Depth → List Sign → ℕ
-shallow d [] = 0
-shallow d (s ∷ i) = if nat_lt limit (nesting d s.kind) then 0 else shallow (behind d s.kind) i + 1
+shallow = count.shallow (λ d s. nesting d s.kind) (λ d s. behind d s.kind) limit
+
+-- how many numbers come before the first above the limit
+abbrev pub leading : List ℕ → ℕ
+leading = count.leading limit

@@ -1,6 +1,6 @@
 -- What it is to read a tree, to be viable, and where a list of signs is refused. Derivations are those of any of the grammar's parts: f puts
 -- the signs of one in front of others, and g is its tree.
-use Rattle.std.specs.Prelude.{◌≡◌, ℕ, ◌≤◌, Bool, true, false, List, [], ◌∷◌, ◌++◌, length, Result, Ok, Err}
+use Rattle.std.specs.Prelude.{◌≡◌, ℕ, Bool, true, false, List, [], ◌∷◌, ◌++◌, length, Result, Ok, Err}
 use Rattle.std.specs.Str.{chars}
 use Rattle.el_outside.specs.declared.place.Pos.{Pos}
 use Rattle.el_outside.specs.Place.{pos, start, end_of}
@@ -12,6 +12,7 @@ use Rattle.agda_parser.specs.declared.error.ParseError.TheVariants.{Bad, NoMemor
 use Rattle.agda_parser.specs.declared.error.ParseKind.{ParseKind}
 use Rattle.agda_parser.specs.declared.error.ParseKind.TheVariants.{Unexpected, TooNested}
 use Rattle.agda_parser.specs.Nesting.{origin, shallow}
+use Rattle.parse_laws.specs.Reading.{IsUnexpected, IsTooNested}
 
 -- the signs have a derivation in which none is nested too deep, and this is its tree
 pub record ReadsAs {D A : Type 0} (f : D → List Sign → List Sign) (g : D → A) (i : List Sign) (x : A) : Type 0 where
@@ -20,23 +21,11 @@ pub record ReadsAs {D A : Type 0} (f : D → List Sign → List Sign) (g : D →
   pub gives : x ≡ g derivation
   pub within : shallow origin i ≡ length i
 
--- the signs can be gone on with to some that have a derivation
-pub record IsViable {D : Type 0} (f : D → List Sign → List Sign) (c : List Sign) : Type 0 where
-  pub derivation : D
-  pub more : List Sign
-  pub whole : f derivation [] ≡ c ++ more
-
--- with the next sign the front is no longer viable; at the end the whole has no derivation
-abbrev pub IsWrong : {D : Type 0} → (D → List Sign → List Sign) → List Sign → List Sign → Type 0
-IsWrong {D = D} f c [] = (d : D) → f d [] ≡ c → ⊥
-IsWrong f c (s ∷ rest) = IsViable f (c ++ s ∷ []) → ⊥
-
 -- Unexpected is the first sign with which the front is not viable, and no sign before it is nested too deep. TooNested is the first that is
 -- nested too deep, where with it the front is viable.
 abbrev pub IsCause : {D : Type 0} → (D → List Sign → List Sign) → ParseKind → List Sign → List Sign → Type 0
-IsCause f Unexpected front rest = IsViable f front × IsWrong f front rest × (length front ≤ shallow origin (front ++ rest))
-IsCause f TooNested front [] = ⊥
-IsCause f TooNested front (s ∷ rest) = IsViable f (front ++ s ∷ []) × (length front ≡ shallow origin (front ++ s ∷ rest))
+IsCause f Unexpected front rest = IsUnexpected f (shallow origin) front rest
+IsCause f TooNested front rest = IsTooNested f (shallow origin) front rest
 
 -- the place of what is left: that of its first token, or the end of the text
 abbrev pub is_block : Kind → Bool

@@ -1,7 +1,7 @@
 use crate::{ParseError, ParseKind, parse};
 use agda_layout::lay_out;
 use agda_lexer::lex;
-use source_tree::{Clause, Decl, Expr, File, Pattern, RecordItem};
+use source_tree::{Decl, File, Pattern, RecordItem};
 use std::alloc::{AllocError, Global};
 
 fn read(alloc: Global, text: &str) -> Result<File, ParseError> {
@@ -139,13 +139,11 @@ fn refuses(rt: HostRuntime) {
 /// The number of patterns and the span, if the declaration is one clause.
 fn clause(found: &Decl) -> Option<(usize, u32, u32)> {
     match found {
-        Decl::Clause(
-            Clause {
-                place,
-                patterns,
-                ..
-            },
-        ) => Some((patterns.len(), place.span.start, place.span.end)),
+        Decl::Clause(clause) => Some((
+            clause.patterns.len(),
+            clause.place.span.start,
+            clause.place.span.end,
+        )),
         _ => None,
     }
 }
@@ -164,57 +162,119 @@ fn function(found: &Decl) -> Option<(usize, usize, u32, u32, u32)> {
     }
 }
 
-/// A clause goes to the end of its last token, a parenthesis among them, and a function to that of its last clause.
+/// A clause goes to the end of its last token, a parenthesis among them.
 #[test]
-fn clauses_and_functions(rt: HostRuntime) -> Result<(), ParseError> {
-    let file = read(rt.alloc(), "f (c x) = (g x)\nf : A\nf (c x)\nf y = e\n")?;
-    let decls = file.decls.as_slice();
-    assert!(rt; file.place.span.end == 38);
-    assert!(rt; matches!(decls, [first, _] if clause(first) == Some((1, 0, 15))));
-    assert!(rt; matches!(decls, [_, second] if function(second) == Some((1, 2, 16, 37, 1))));
+fn clauses(rt: HostRuntime) -> Result<(), ParseError> {
+    let file = read(rt.alloc(), "f (c x) = (g x)\n")?;
+    assert!(rt; file.place.span.end == 16);
+    match file.decls.get(0) {
+        Some(decl) => assert!(rt; clause(decl) == Some((1, 0, 15))),
+        None => assert!(rt; false),
+    }
     Ok(())
 }
 
-/// Whether it is `c _ (d x)`: the parentheses leave no node.
-fn is_nested(found: &Pattern) -> bool {
+/// A function goes to the end of its last clause.
+#[test]
+fn functions(rt: HostRuntime) -> Result<(), ParseError> {
+    let file = read(rt.alloc(), "f : A\nf (c x)\nf y = e\n")?;
+    match file.decls.get(0) {
+        Some(decl) => assert!(rt; function(decl) == Some((1, 2, 0, 21, 1))),
+        None => assert!(rt; false),
+    }
+    Ok(())
+}
+
+/// The number of the variant, the number of patterns in it, and the column.
+fn pattern(found: &Pattern) -> (u32, usize, u32) {
     match found {
-        Pattern::Name(place, _name, inner) => {
-            place.span.start == 3
-                && matches!(inner.as_slice(), [Pattern::Underscore(_), Pattern::Name(_, _, last)] if last.len() == 1)
+        Pattern::Implicit(place, _) => (0, 1, place.pos.col),
+        Pattern::Named(place, _, _) => (1, 1, place.pos.col),
+        Pattern::Project(place, _) => (2, 0, place.pos.col),
+        Pattern::ProjectQualified(place, _) => (3, 0, place.pos.col),
+        Pattern::Name(place, _, inner) => (4, inner.len(), place.pos.col),
+        Pattern::Underscore(place) => (5, 0, place.pos.col),
+        Pattern::Absurd(place) => (6, 0, place.pos.col),
+        Pattern::Dotted(place, _) => (7, 0, place.pos.col),
+    }
+}
+
+fn are(found: &[Pattern], wanted: &[(u32, usize, u32)]) -> bool {
+    if found.len() != wanted.len() {
+        return false;
+    }
+    for (i, one) in found.iter().enumerate() {
+        if pattern(one) != wanted[i] {
+            return false;
         }
+    }
+    true
+}
+
+fn clause_is(found: &Decl, wanted: &[(u32, usize, u32)]) -> bool {
+    match found {
+        Decl::Clause(clause) => are(clause.patterns.as_slice(), wanted),
         _ => false,
     }
 }
 
+/// Each pattern with its place; parentheses leave no node, and are left out of places.
 #[test]
 fn patterns(rt: HostRuntime) -> Result<(), ParseError> {
-    let file = read(rt.alloc(), "f (c _ (d x)) () .(e) {p} {x = p} .p .R.p")?;
-    match file.decls.as_slice() {
-        [
-            Decl::Clause(
-                Clause {
-                    patterns,
-                    right: None,
-                    ..
-                },
-            ),
-        ] => {
-            assert!(rt; matches!(patterns.as_slice(), [first, ..] if is_nested(first)));
-            assert!(rt;
-                matches!(patterns.as_slice(), [
-                _,
-                Pattern::Absurd(_),
-                Pattern::Dotted(dotted, Expr::Name(_)),
-                Pattern::Implicit(_, _),
-                Pattern::Named(_, _, _),
-                Pattern::Project(_, _),
-                Pattern::ProjectQualified(_, _)
-            ] if dotted.pos.col == 18)
-            );
-        }
-        _ => assert!(rt; false),
+    let file = read(
+        rt.alloc(),
+        "f (c _ (d x)) ((y)) () .(e) {p} {x = p} .p .R.p",
+    )?;
+    let wanted = [
+        (4, 2, 4),
+        (4, 0, 17),
+        (6, 0, 21),
+        (7, 0, 24),
+        (0, 1, 29),
+        (1, 1, 33),
+        (2, 0, 41),
+        (3, 0, 44),
+    ];
+    match file.decls.get(0) {
+        Some(decl) => assert!(rt; clause_is(decl, &wanted)),
+        None => assert!(rt; false),
     }
     Ok(())
+}
+
+/// The number of the variant, and the number of signatures.
+fn item(found: &RecordItem) -> (u32, usize) {
+    match found {
+        RecordItem::Inductive(_) => (0, 0),
+        RecordItem::Coinductive(_) => (1, 0),
+        RecordItem::Constructor(_, _) => (2, 0),
+        RecordItem::Field(_, signatures) => (3, signatures.len()),
+    }
+}
+
+fn items_are(found: &[RecordItem], wanted: &[(u32, usize)]) -> bool {
+    if found.len() != wanted.len() {
+        return false;
+    }
+    for (i, one) in found.iter().enumerate() {
+        if item(one) != wanted[i] {
+            return false;
+        }
+    }
+    true
+}
+
+fn record_is(found: &Decl, wanted: &[(u32, usize)]) -> bool {
+    match found {
+        Decl::Record(place, _, binders, _, items) => {
+            place.pos.col == 8
+                && place.span.start == 0
+                && place.span.end == 90
+                && binders.len() == 1
+                && items_are(items.as_slice(), wanted)
+        }
+        _ => false,
+    }
 }
 
 /// The items of a record stand in the order of the text, and a declaration at its name.
@@ -224,24 +284,9 @@ fn records(rt: HostRuntime) -> Result<(), ParseError> {
         rt.alloc(),
         "record R {x : A} : Set where\n  constructor c\n  inductive\n  field\n    y z : A\n  field w : B",
     )?;
-    match file.decls.as_slice() {
-        [Decl::Record(place, _name, binders, Expr::SetLevel(_, 0), items)] => {
-            assert!(rt;
-                place.pos.col == 8
-                    && place.span.start == 0
-                    && place.span.end == 90
-                    && binders.len() == 1
-            );
-            assert!(rt;
-                matches!(items.as_slice(), [
-                RecordItem::Constructor(_, _),
-                RecordItem::Inductive(_),
-                RecordItem::Field(_, first),
-                RecordItem::Field(_, second)
-            ] if first.len() == 1 && second.len() == 1)
-            );
-        }
-        _ => assert!(rt; false),
+    match file.decls.get(0) {
+        Some(decl) => assert!(rt; record_is(decl, &[(2, 0), (0, 0), (3, 1), (3, 1)])),
+        None => assert!(rt; false),
     }
     Ok(())
 }

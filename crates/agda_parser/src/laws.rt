@@ -10,9 +10,9 @@ ghost use Rattle.agda_parser.specs.declared.error.ParseError.TheVariants.{NoMemo
 ghost use Rattle.agda_parser.specs.declared.error.ParseKind.{ParseKind};
 ghost use Rattle.agda_parser.specs.Grammar.{Derivation, then, tree};
 ghost use Rattle.agda_parser.specs.Declarations.{FileDerivation, file_then, file_tree};
-ghost use Rattle.agda_parser.specs.Nesting.{shallow, origin};
+ghost use Rattle.agda_parser.specs.Nesting.{nestings, shallow, leading, origin};
 ghost use Rattle.agda_parser.specs.Reading.{IsRefused, Settles};
-ghost use Rattle.agda_parser.specs.Depths.{depths, nestings, leading};
+ghost use Rattle.agda_parser.specs.Depths.{depths};
 ghost use Rattle.agda_parser.specs.FileDepths.{file_depths};
 
 /// The count of nesting over a list of signs is the nesting in each derivation of an expression: by parentheses, braces,

@@ -1,3 +1,4 @@
 pub mod Good
 pub mod Many
 pub mod Look
+pub mod Limit

@@ -1,1 +1,3 @@
 pub mod Parser
+pub mod Nesting
+pub mod Reading
