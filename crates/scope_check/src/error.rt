@@ -1,5 +1,4 @@
-use core_terms::NoMemory;
-use el_outside::{Pos, Text};
+use el_outside::{NoMemory, Pos, Text};
 use std::alloc::AllocError;
 
 /// Why a name is refused.

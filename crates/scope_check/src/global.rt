@@ -2,7 +2,7 @@ use core_terms::{ConId, DefId, FamId, FieldId};
 
 /// What a name outside every binder stands for.
 #[derive(Clone, Copy, Debug, PartialEq, Eq)]
-pub enum Global {
+pub enum GlobalId {
     /// A postulate or a function.
     Def(DefId),
     /// A data or record type.

@@ -3,11 +3,18 @@
 #![tactic(auto)]
 
 mod error;
+mod exprs;
 mod global;
+mod head;
+mod holes;
+mod locals;
+mod names;
 mod resolved;
+mod scope;
 
 pub use error::{ScopeError, ScopeKind};
 pub use resolved::{
     Resolved, ResolvedArg, ResolvedBinder, ResolvedClause, ResolvedExpr, ResolvedItem, ResolvedName,
     ResolvedPattern, ResolvedSignature, ResolvedValue,
 };
+pub use scope::Scope;

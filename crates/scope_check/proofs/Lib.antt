@@ -1,0 +1,4 @@
+pub mod Folds
+pub mod Inside
+pub mod Loops
+pub mod Places
