@@ -1,4 +1,5 @@
 pub mod Folds
 pub mod Inside
 pub mod Loops
+pub mod MentionFolds
 pub mod Places

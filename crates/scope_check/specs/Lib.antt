@@ -2,3 +2,4 @@ pub mod Known
 pub mod Answers
 pub mod Exprs
 pub mod Layers
+pub mod Mentions

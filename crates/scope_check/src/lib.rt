@@ -8,6 +8,7 @@ mod global;
 mod head;
 mod holes;
 mod locals;
+mod mentions;
 mod names;
 mod resolved;
 mod scope;
