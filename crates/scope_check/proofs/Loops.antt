@@ -36,3 +36,7 @@ module _ {A : Type 0} (f : A → BinderMeaning) (xs : List A) (i : ℕ) (ls : Lo
   pub binders_end : (found : List _) → length xs ≤ i → binders_from found (map f (drop i xs)) ls ≡ Ok (found, ls)
   unfolding binders_from
   binders_end found le = ap (λ (l : List A). binders_from found (map f l) ls) (drop_end xs i le)
+
+pub none_left : {A : Type 0} (xs : List A) → length xs < 1 → xs ≡ []
+none_left [] lt = refl
+none_left (x ∷ xs) lt = absurd (omega arith)

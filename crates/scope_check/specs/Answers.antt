@@ -41,3 +41,8 @@ Answers s (Err e) = e ≢ NoMemory → s ≡ Err e
 abbrev pub Binds : {A B : Type 0} → Checked (A × B) → Result A ScopeError → B → Type 0
 Binds s (Ok x) ls = s ≡ Ok (x, ls)
 Binds s (Err e) ls = e ≢ NoMemory → s ≡ Err e
+
+-- what is left is b, unless memory ran out
+abbrev pub Leaves : {B : Type 0} → Checked B → Result (Unit {0}) ScopeError → B → Type 0
+Leaves s (Ok u) b = s ≡ Ok b
+Leaves s (Err e) b = e ≢ NoMemory → s ≡ Err e

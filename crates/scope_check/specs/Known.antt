@@ -1,5 +1,5 @@
 -- What is in scope behind the declarations so far.
-use Rattle.std.specs.Prelude.{◌≡◌, ℕ, zero, suc, ◌+◌, List, [], ◌∷◌, ◌++◌, Option, Some, None, if◌then◌else◌, take, length, refl}
+use Rattle.std.specs.Prelude.{◌≡◌, ℕ, zero, suc, ◌+◌, List, [], ◌∷◌, ◌++◌, Option, Some, None, is_some, if◌then◌else◌, length, refl}
 use Rattle.std.specs.Coded.{Coded, code_by, coded×, coded_list, coded_option, coded_ℕ}
 use Rattle.std.specs.List.{position_from}
 use Rattle.std.specs.Str.{bytes_eq}
@@ -57,6 +57,9 @@ coded_known =
     (λ k. (k.names, (k.globals, (k.families, (k.defs, (k.cons, k.fields))))))
     (λ t. record { names = t.0; globals = t.1.0; families = t.1.1.0; defs = t.1.1.1.0; cons = t.1.1.1.1.0; fields = t.1.1.1.1.1 }) (λ _. refl)
 
+abbrev pub nothing_known : Known
+nothing_known = record { names = [] ∷ []; globals = []; families = []; defs = 0; cons = 0; fields = 0 }
+
 -- the first place of a text in a list of texts
 abbrev pub place_of : List (List ℕ) → List ℕ → Option ℕ
 place_of xs x = position_from (bytes_eq x) 0 xs
@@ -78,3 +81,54 @@ global_in (g ∷ gs) x = if bytes_eq x g.0 then Some g.1 else global_in gs x
 pub record Inside (ls ms : List (List ℕ)) : Type 0 where
   pub more : List (List ℕ)
   pub is : ms ≡ more ++ ls
+
+-- ---- what a declaration adds
+
+-- a global behind the others; the first one of a text stays
+abbrev pub with_global_in : List (List ℕ × GlobalId) → List ℕ → GlobalId → List (List ℕ × GlobalId)
+with_global_in gs x i = if is_some (global_in gs x) then gs else gs ++ (x, i) ∷ []
+
+abbrev pub with_global : Known → List ℕ → GlobalId → Known
+with_global k x i = record { names = k.names; globals = with_global_in k.globals x i; families = k.families; defs = k.defs; cons = k.cons; fields = k.fields }
+
+-- the next postulate or function
+abbrev pub with_def : Known → List ℕ → Known
+with_def k x = record { names = k.names; globals = with_global_in k.globals x (g.Def k.defs); families = k.families; defs = k.defs + 1; cons = k.cons; fields = k.fields }
+
+-- the next constructor
+abbrev pub with_con : Known → List ℕ → Known
+with_con k x = record { names = k.names; globals = with_global_in k.globals x (g.Con k.cons); families = k.families; defs = k.defs; cons = k.cons + 1; fields = k.fields }
+
+-- a constructor that the source does not name
+abbrev pub with_nameless_con : Known → Known
+with_nameless_con k = record { names = k.names; globals = k.globals; families = k.families; defs = k.defs; cons = k.cons + 1; fields = k.fields }
+
+-- the next field of the record R, as `R.f`
+abbrev pub with_field : Known → List ℕ → List ℕ → Known
+with_field k x f = record { names = k.names; globals = with_global_in k.globals (x ++ 46 ∷ f) (g.Field k.fields); families = k.families; defs = k.defs; cons = k.cons; fields = k.fields + 1 }
+
+-- the name of a data or record type, whose fields are told once it is done
+abbrev pub with_family : Known → List ℕ → Known
+with_family k x = with_global k x (g.Family (length k.families))
+
+abbrev pub with_families : Known → Option Fields → Known
+with_families k o = record { names = k.names; globals = k.globals; families = k.families ++ o ∷ []; defs = k.defs; cons = k.cons; fields = k.fields }
+
+abbrev pub with_names : Known → List (List ℕ) → Known
+with_names k ns = record { names = ns; globals = k.globals; families = k.families; defs = k.defs; cons = k.cons; fields = k.fields }
+
+-- ---- marks
+
+pub record Longer {A : Type 0} (xs ys : List A) : Type 0 where
+  pub more : List A
+  pub is : ys ≡ xs ++ more
+
+-- m knows what k knows, in the same order, and perhaps more
+pub record Grows (k m : Known) : Type 0 where
+  pub names : Longer k.names m.names
+  pub globals : Longer k.globals m.globals
+  pub families : Longer k.families m.families
+
+-- where k ends
+abbrev pub mark_of : Known → ℕ × ℕ × ℕ × ℕ × ℕ × ℕ
+mark_of k = (length k.names, length k.globals, length k.families, k.defs, k.cons, k.fields)

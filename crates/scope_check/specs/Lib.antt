@@ -3,3 +3,5 @@ pub mod Answers
 pub mod Exprs
 pub mod Layers
 pub mod Mentions
+pub mod Patterns
+pub mod Decls

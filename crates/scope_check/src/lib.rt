@@ -2,6 +2,7 @@
 //! A [`Scope`] holds what is in scope behind the declarations so far, and [`resolve`] reads one more.
 #![tactic(auto)]
 
+mod depth;
 mod error;
 mod exprs;
 mod global;
@@ -10,8 +11,11 @@ mod holes;
 mod locals;
 mod mentions;
 mod names;
+mod parts;
+mod postulates;
 mod resolved;
 mod scope;
+mod texts;
 
 pub use error::{ScopeError, ScopeKind};
 pub use resolved::{
