@@ -1,5 +1,6 @@
 -- The meaning of a pattern by that of its parts.
-use Rattle.std.proofs.Common.{◌≡◌, ◌∙◌, ◌<◌, ◌≤◌, ◌+◌, List, [], ◌∷◌, ◌++◌, map, drop, length, get_or, ℕ, Bool, Option, Some, None, refl, ap, Ok, Err}
+use Rattle.std.proofs.Common.{◌≡◌, ◌∙◌, ◌<◌, ◌≤◌, ◌+◌, List, [], ◌∷◌, ◌++◌, map, drop, length, get_or, ℕ, Bool, true, false, ◌||◌, Option, Some, None, reverse, refl, ap, append_assoc, Ok, Err}
+use Rattle.std.proofs.lemmas.List.{reverse-append}
 use Rattle.std.specs.List.{list_any}
 use Rattle.source_tree.specs.declared.place.Place.{Place}
 use Rattle.source_tree.specs.declared.place.Name.{Name}
@@ -10,7 +11,7 @@ use Rattle.scope_check.specs.Answers.{Checked, and_then}
 use Rattle.scope_check.specs.Known.{Known}
 use Rattle.scope_check.specs.Exprs.{Locals}
 use Rattle.scope_check.specs.Mentions.{Texts}
-use Rattle.scope_check.specs.Patterns.{PatternMeaning, absurd_step, is_absurd, absurd_in, con_named, variables_of, variables_named, variables_step, variables, variables_in, pattern_step, pattern, pattern_of, pattern_named, pattern_in, patterns_from}
+use Rattle.scope_check.specs.Patterns.{PatternMeaning, absurd_step, is_absurd, absurd_in, con_named, variables_of, variables_named, variables_step, variables, variables_in, pattern_step, pattern, pattern_of, pattern_named, pattern_in, patterns_from, inside}
 use Rattle.scope_check.proofs.Loops.{drop_next, drop_end}
 
 any_each : (qs : List Pattern) → list_any (λ b. b) (map is_absurd qs) ≡ list_any is_absurd qs
@@ -79,3 +80,15 @@ module _ (k : Known) (ls : Locals) where
     pub patterns_end : (found : List _) → length xs ≤ i → patterns_from depth found (map (pattern k ls) (drop i xs)) seen ≡ Ok (found, seen)
     unfolding patterns_from
     patterns_end found le = ap (λ (l : List Pattern). patterns_from depth found (map (pattern k ls) l) seen) (drop_end xs i le)
+
+-- ---- lists, one item further
+
+module _ {A : Type 0} (f : A → Bool) (xs : List A) (i : ℕ) where
+  pub any_next : (x : A) → i < length xs → x ≡ get_or xs i x → list_any f (drop i xs) ≡ (f x || list_any f (drop (i + 1) xs))
+  any_next x lt e = ap (λ (l : List A). list_any f l) (drop_next xs i x lt e)
+
+  pub any_end : length xs ≤ i → list_any f (drop i xs) ≡ false
+  any_end le = ap (λ (l : List A). list_any f l) (drop_end xs i le)
+
+pub inside_more : (ls xs ys : Texts) → inside ls (xs ++ ys) ≡ inside (inside ls xs) ys
+inside_more ls xs ys = ap (λ (l : Texts). l ++ ls) (reverse-append xs ys) ∙ append_assoc (reverse ys) (reverse xs) ls

@@ -103,8 +103,11 @@ clause_sides k f c =
     patterns k ls Outer [] c.patterns [] >>= (λ qs. right_side k ls c.right >>= (λ e.
     Ok (record { place = c.place; function = f; patterns = qs.0; right = e })))
 
+abbrev pub is_clause_of : List ℕ → Clause → Bool
+is_clause_of x c = if bytes_eq c.name.text x then is_ended c else false
+
 abbrev pub clause : Known → ℕ → List ℕ → Clause → Checked ResolvedClause
-clause k f x c = if bytes_eq c.name.text x && is_ended c then clause_sides k f c else refused Misplaced c.name
+clause k f x c = if is_clause_of x c then clause_sides k f c else refused Misplaced c.name
 
 -- a signature of one name, and at least one clause
 abbrev pub is_single : List Name → List Clause → Bool

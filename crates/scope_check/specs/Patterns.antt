@@ -143,10 +143,13 @@ absurd_in (Pattern-F.Underscore p) = false
 absurd_in (Pattern-F.Absurd p) = true
 absurd_in (Pattern-F.Dotted p e) = false
 
+abbrev pub name_variable : Name → List Pattern → Texts
+name_variable x [] = x.text ∷ []
+name_variable x (q ∷ qs) = []
+
 abbrev pub variables_named : Known → Option ℕ → Name → List Pattern → Texts
 variables_named k (Some c) x qs = all_of (map (variables k) qs)
-variables_named k None x [] = x.text ∷ []
-variables_named k None x (q ∷ qs) = []
+variables_named k None x qs = name_variable x qs
 
 abbrev pub variables_in : Known → Pattern-F Pattern → Texts
 variables_in k (Pattern-F.Implicit p q) = variables k q
@@ -158,14 +161,17 @@ variables_in k (Pattern-F.Underscore p) = []
 variables_in k (Pattern-F.Absurd p) = []
 variables_in k (Pattern-F.Dotted p e) = []
 
+abbrev pub variable_named : Known → Texts → Name → List Pattern → Checked (ResolvedPattern × Texts)
+variable_named k seen x [] = variable k seen x
+variable_named k seen x (q ∷ qs) = refused NotAConstructor x
+
 module _ (k : Known) (ls : Locals) where
   abbrev pub patterns : Depth → List ResolvedPattern → List Pattern → Texts → Checked (List ResolvedPattern × Texts)
   patterns depth found qs seen = patterns_from depth found (map (pattern k ls) qs) seen
 
   abbrev pub pattern_named : Texts → Place → Name → List Pattern → Option ℕ → Checked (ResolvedPattern × Texts)
   pattern_named seen p x qs (Some c) = patterns Inner [] qs seen >>= (λ y. Ok (rp.Con p c y.0, y.1))
-  pattern_named seen p x [] None = variable k seen x
-  pattern_named seen p x (q ∷ qs) None = refused NotAConstructor x
+  pattern_named seen p x qs None = variable_named k seen x qs
 
   abbrev pub pattern_in : Depth → Texts → Pattern-F Pattern → Checked (ResolvedPattern × Texts)
   pattern_in depth seen (Pattern-F.Implicit p q) = pattern k ls q depth seen >>= (λ y. Ok (rp.Implicit p y.0, y.1))

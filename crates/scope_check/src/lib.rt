@@ -5,13 +5,16 @@
 mod depth;
 mod error;
 mod exprs;
+mod functions;
 mod global;
 mod head;
 mod holes;
 mod locals;
 mod mentions;
 mod names;
+mod opens;
 mod parts;
+mod patterns;
 mod postulates;
 mod resolved;
 mod scope;
