@@ -187,9 +187,8 @@ field_lines k found (s ∷ ss) r = field_line k r s >>= (λ y. field_lines k (fo
 
 -- a record has one constructor at most
 abbrev pub con_item : Known → Parts → Place → Name → Checked (ResolvedItem × Parts)
-con_item k r p x =
-    if is_global k x.text || is_some r.con then refused Duplicate x
-    else Ok (ri.Constructor p (label k x), record { con = Some x.text; fields = r.fields; locals = r.locals })
+con_item k r p x = fresh k x >>= (λ _. if is_some r.con then refused Duplicate x
+    else Ok (ri.Constructor p (label k x), record { con = Some x.text; fields = r.fields; locals = r.locals }))
 
 abbrev pub item : Known → Parts → RecordItem → Checked (ResolvedItem × Parts)
 item k r (i.Inductive p) = Ok (ri.Inductive p, r)

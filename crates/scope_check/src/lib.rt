@@ -2,9 +2,11 @@
 //! A [`Scope`] holds what is in scope behind the declarations so far, and [`resolve`] reads one more.
 #![tactic(auto)]
 
+mod decls;
 mod depth;
 mod error;
 mod exprs;
+mod families;
 mod functions;
 mod global;
 mod head;
@@ -16,13 +18,15 @@ mod opens;
 mod parts;
 mod patterns;
 mod postulates;
+mod records;
 mod resolved;
 mod scope;
 mod texts;
 
 pub use error::{ScopeError, ScopeKind};
+pub use decls::resolve;
 pub use resolved::{
     Resolved, ResolvedArg, ResolvedBinder, ResolvedClause, ResolvedExpr, ResolvedItem, ResolvedName,
     ResolvedPattern, ResolvedSignature, ResolvedValue,
 };
-pub use scope::Scope;
+pub use scope::{Scope, ScopeMark};

@@ -85,10 +85,11 @@ impl Texts {
         ensures { IfOk result (λ xs. xs ≡ self.now) }
     {
         let mut found = Items::new(alloc);
-        let mut at = 0;
-        while let Some(text) = self.get(at) {
+        for at in 0..self.keys.len() {
+            let Some(text) = self.get(at) else {
+                return Err(NoMemory);
+            };
             found.push(Text::from_str(alloc, text)?)?;
-            at += 1;
         }
         Ok(found)
     }
