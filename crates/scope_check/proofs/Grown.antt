@@ -45,7 +45,8 @@ pub grows-trans : (k m n : Known) → Grows k m → Grows m n → Grows k n
 grows-trans k m n a b = record {
   names = longer-trans k.names m.names n.names a.names b.names;
   globals = longer-trans k.globals m.globals n.globals a.globals b.globals;
-  families = longer-trans k.families m.families n.families a.families b.families }
+  families = longer-trans k.families m.families n.families a.families b.families;
+}
 
 pub grows-names : (k : Known) (xs : Texts) → Grows k (with_names k (with_texts k.names xs))
 grows-names k xs = record { names = longer-texts k.names xs; globals = longer-refl k.globals; families = longer-refl k.families }

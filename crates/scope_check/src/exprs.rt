@@ -130,7 +130,16 @@ fn head_in(
                 Ok(Head::Whole(ResolvedExpr::App(*place, inner, found)))
             }
             Head::Field(name, field) => {
-                field_applied(alloc, scope, holes, locals, *place, name, field, all.as_slice())
+                field_applied(
+                    alloc,
+                    scope,
+                    holes,
+                    locals,
+                    *place,
+                    name,
+                    field,
+                    all.as_slice(),
+                )
             }
         },
         Expr::Arrow(place, left, right) => {
@@ -252,9 +261,7 @@ fn arg_in(
     ensures locals { OnOk result (locals.new ≡ locals.old) }
 {
     match found {
-        Arg::Plain(value) => Ok(ResolvedArg::Plain(expr(
-            alloc, scope, holes, locals, value,
-        )?)),
+        Arg::Plain(value) => Ok(ResolvedArg::Plain(expr(alloc, scope, holes, locals, value)?)),
         Arg::Implicit(place, value) => Ok(ResolvedArg::Implicit(
             *place,
             expr(alloc, scope, holes, locals, value)?,

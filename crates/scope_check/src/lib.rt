@@ -2,6 +2,7 @@
 //! A [`Scope`] holds what is in scope behind the declarations so far, and [`resolve`] reads one more.
 #![tactic(auto)]
 
+mod copying;
 mod decls;
 mod depth;
 mod error;
@@ -23,10 +24,13 @@ mod resolved;
 mod scope;
 mod texts;
 
-pub use error::{ScopeError, ScopeKind};
 pub use decls::resolve;
+pub use error::{ScopeError, ScopeKind};
 pub use resolved::{
-    Resolved, ResolvedArg, ResolvedBinder, ResolvedClause, ResolvedExpr, ResolvedItem, ResolvedName,
-    ResolvedPattern, ResolvedSignature, ResolvedValue,
+    Resolved, ResolvedArg, ResolvedBinder, ResolvedClause, ResolvedExpr, ResolvedItem,
+    ResolvedName, ResolvedPattern, ResolvedSignature, ResolvedValue,
 };
 pub use scope::{Scope, ScopeMark};
+
+#[cfg(test)]
+mod tests;

@@ -7,7 +7,9 @@ ghost use Rattle.source_tree.specs.declared.pattern.Pattern.{out-Pattern};
 ghost use Rattle.scope_check.specs.Mentions as spec;
 
 use el_outside::NoMemory;
-use source_tree::{Arg, Binder, Clause, Decl, Expr, FieldValue, Name, Pattern, RecordItem, Signature};
+use source_tree::{
+    Arg, Binder, Clause, Decl, Expr, FieldValue, Name, Pattern, RecordItem, Signature,
+};
 use std::alloc::Global;
 use std::marker::Model;
 

@@ -95,12 +95,7 @@ pub fn qualified(alloc: Global, scope: &Scope, name: &Name) -> Result<Head, Scop
 }
 
 /// A name that is found among the variables around, or else among the globals.
-pub fn named(
-    alloc: Global,
-    scope: &Scope,
-    locals: &Locals,
-    name: &Name,
-) -> Result<Head, ScopeError>
+pub fn named(alloc: Global, scope: &Scope, locals: &Locals, name: &Name) -> Result<Head, ScopeError>
     ensures { Answers (spec.named scope.now locals.now name.now) result }
 {
     match locals.find(name.text.as_str()) {

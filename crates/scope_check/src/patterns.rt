@@ -117,11 +117,7 @@ fn variables_in(scope: &Scope, locals: &mut Locals, found: &Pattern) -> Result<(
 
 /// Puts the variables of the patterns, from left to right, inside the variables around.
 #[cycle(variables)]
-pub fn all_variables(
-    scope: &Scope,
-    locals: &mut Locals,
-    all: &[Pattern],
-) -> Result<(), NoMemory>
+pub fn all_variables(scope: &Scope, locals: &mut Locals, all: &[Pattern]) -> Result<(), NoMemory>
     ensures { OnOk result (locals.new ≡ spec.inside locals.old (all_of (map (spec.variables scope.now) all.now))) }
 {
     for one in all {

@@ -137,19 +137,7 @@ pub enum Resolved {
     Open(Place, FamId, bool),
     /// A data type with its parameters, the type after the colon under these, and its constructors, whose types stand under the
     /// parameters too.
-    Data(
-        Place,
-        ResolvedName,
-        Items<ResolvedBinder>,
-        ResolvedExpr,
-        Items<ResolvedSignature>,
-    ),
+    Data(Place, ResolvedName, Items<ResolvedBinder>, ResolvedExpr, Items<ResolvedSignature>),
     /// A record type, likewise.
-    Record(
-        Place,
-        ResolvedName,
-        Items<ResolvedBinder>,
-        ResolvedExpr,
-        Items<ResolvedItem>,
-    ),
+    Record(Place, ResolvedName, Items<ResolvedBinder>, ResolvedExpr, Items<ResolvedItem>),
 }

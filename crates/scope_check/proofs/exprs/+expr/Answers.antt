@@ -57,7 +57,7 @@ binders-loop-one-preserved t c =
     let e = c.loop-one.invariant.left ∙ binders_next (spec.binder_of c.args.scope.now c.args.holes) c.args.all.now c.loop-one.one-index c.loop-one.locals c.one-item.result c.loop-one.found c.loop-one-test.true c.one-item.is in
     record {
       inside = inside-trans c.args.locals.now c.loop-one.locals c.binder.new.locals c.loop-one.invariant.inside (c.in_ok-binder.ensures.inside);
-      left = first_of (search rules, grind (arith, common_steps))
+      left = first_of (search rules, grind (arith, common_steps));
     }
 
 pub binders-returns-clause-binds : goal.binders-returns-clause-binds
