@@ -1,0 +1,19 @@
+-- Variables with others inside.
+use Rattle.std.proofs.Common.{◌≡◌, ℕ, List, [], ◌∷◌, ◌++◌, refl, ap, ◌∙◌, sym, append_assoc, reverse, map}
+use Rattle.source_tree.specs.declared.place.Name.{Name}
+use Rattle.scope_check.specs.Known.{Inside}
+use Rattle.scope_check.specs.Exprs.{under, texts}
+
+pub inside-refl : (ls : List (List ℕ)) → Inside ls ls
+inside-refl ls = record { more = []; is = refl }
+
+pub inside-push : (ls : List (List ℕ)) (x : List ℕ) → Inside ls (x ∷ ls)
+inside-push ls x = record { more = x ∷ []; is = refl }
+
+pub inside-under : (ls : List (List ℕ)) (xs : List Name) → Inside ls (under ls xs)
+inside-under ls xs = record { more = reverse (texts xs); is = refl }
+
+pub inside-trans : (ls ms ns : List (List ℕ)) → Inside ls ms → Inside ms ns → Inside ls ns
+inside-trans ls ms ns a b = record { more = b.more ++ a.more; is = b.is ∙ ap (λ (l : List (List ℕ)). b.more ++ l) a.is ∙ sym (append_assoc b.more a.more ls) }
+
+pub ruleset inside = (inside-refl, inside-push, inside-under, inside-trans)

@@ -1,0 +1,6 @@
+use Rattle.std.proofs.Common.{◌≡◌, ◌++◌, map, drop}
+use Rattle.scope_check.specs.Mentions as spec
+use Rattle.scope_check.proofs.mentions.Mentions.clauses.Given as goal
+
+abbrev pub invariant-loop-one : goal.invariant-loop-one
+invariant-loop-one l = l.fn.self ++ spec.all_of (map spec.in_clause l.all) ≡ l.self ++ spec.all_of (map spec.in_clause (drop l.one-index l.all))

@@ -1,0 +1,13 @@
+use Rattle.std.proofs.Common.{◌≡◌, [], length}
+use Rattle.scope_check.specs.Decls as spec
+use Rattle.scope_check.specs.Known.{Grows}
+use Rattle.scope_check.proofs.postulates.postulate_lines.Given as goal
+
+abbrev pub invariant-loop-left : goal.invariant-loop-left
+invariant-loop-left l = record {
+  grows : Grows l.fn.scope l.scope;
+  rest : spec.postulate_lines [] l.all l.fn.scope ≡ spec.postulate_lines l.found l.left l.scope;
+}
+
+abbrev pub decreases-loop-left : goal.decreases-loop-left
+decreases-loop-left l = length l.left

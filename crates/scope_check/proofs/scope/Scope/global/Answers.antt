@@ -1,0 +1,16 @@
+use Rattle.std.proofs.Common.{◌∙◌, ap, List, ℕ}
+use Rattle.std.specs.String.{string_bytes}
+use Rattle.scope_check.specs.declared.global.GlobalId.{GlobalId}
+use Rattle.scope_check.specs.Known.{Known, global_in}
+use Rattle.scope_check.proofs.Places.{lookup-global_in}
+use Rattle.scope_check.proofs.scope.Scope.global.Goals as goal
+
+pub returns-in-Some : goal.returns-in-Some
+returns-in-Some c =
+    c.in-Some.ensures.value ∙ lookup-global_in string_bytes c.args.text.now c.self.inside.globals.entries
+    ∙ ap (λ (k : Known). global_in k.globals c.args.text.now) c.self.view_is
+
+pub returns-in-None : goal.returns-in-None
+returns-in-None c =
+    c.in-None.ensures.value ∙ lookup-global_in string_bytes c.args.text.now c.self.inside.globals.entries
+    ∙ ap (λ (k : Known). global_in k.globals c.args.text.now) c.self.view_is

@@ -1,0 +1,12 @@
+use Rattle.std.proofs.Common.{◌≡◌, ◌∙◌, [], List, ℕ, sym, ap, map, rules, arith}
+use Rattle.std.proofs.lemmas.Grind.{common_steps}
+use Rattle.scope_check.specs.Known.{with_names}
+use Rattle.scope_check.specs.Mentions.{with_texts}
+use Rattle.scope_check.proofs.Loops.{none_left}
+use Rattle.scope_check.proofs.scope.Scope.note_all.Goals as goal
+
+pub returns-clause-ok : goal.returns-clause-ok
+unfolding with_texts
+returns-clause-ok c =
+    let none = none_left c.loop-left.left.now c.in_default.len_below in
+    sym (c.loop-left.invariant.rest ∙ ap (λ (xs : List _). with_names c.loop-left.self (with_texts c.loop-left.self.names (map (λ t. t.now) xs))) none)

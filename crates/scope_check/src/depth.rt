@@ -1,0 +1,6 @@
+/// Where a pattern stands: in a constructor pattern, or not.
+#[derive(Clone, Copy, Debug, PartialEq, Eq)]
+pub enum Depth {
+    Outer,
+    Inner,
+}

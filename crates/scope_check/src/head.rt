@@ -1,0 +1,11 @@
+use crate::resolved::ResolvedExpr;
+use core_terms::FieldId;
+use source_tree::Name;
+
+/// What stands at the head of an application.
+#[derive(Drop)]
+pub enum Head {
+    Whole(ResolvedExpr),
+    /// A field, which wants its argument, with the name that it is written by.
+    Field(Name, FieldId),
+}
