@@ -1,5 +1,6 @@
 pub mod Folds
 pub mod Grown
+pub mod Innermost
 pub mod Inside
 pub mod Loops
 pub mod MentionFolds

@@ -5,3 +5,4 @@ pub mod Layers
 pub mod Mentions
 pub mod Patterns
 pub mod Decls
+pub mod Innermost

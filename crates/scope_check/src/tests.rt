@@ -1,6 +1,7 @@
-use crate::{Resolved, ResolvedExpr, Scope, ScopeError, ScopeKind, resolve};
-use el_outside::{Pos, Span, Text};
-use source_tree::{Arg, Clause, Decl, Expr, Name, Pattern, Place, RecordItem, Signature};
+use crate::locals::Locals;
+use crate::{Resolved, ResolvedArg, ResolvedExpr, Scope, ScopeError, ScopeKind, resolve};
+use el_outside::{NoMemory, Pos, Span, Text};
+use source_tree::{Arg, Binder, Clause, Decl, Expr, Name, Pattern, Place, RecordItem, Signature};
 use sqlite_items::{Boxed, Items};
 use std::alloc::Global;
 
@@ -29,6 +30,20 @@ fn arrow(alloc: Global, left: Expr, right: Expr) -> Result<Expr, ScopeError> {
     let left = Boxed::new(alloc, left)?;
     let right = Boxed::new(alloc, right)?;
     Ok(Expr::Arrow(at(90), left, right))
+}
+
+/// `λ text → right`.
+fn lambda(alloc: Global, text: &str, col: u32, right: Expr) -> Result<Expr, ScopeError> {
+    let mut binders = Items::new(alloc);
+    binders.push(Binder::Name(name(alloc, text, col)?))?;
+    Ok(Expr::Lambda(at(col), binders, Boxed::new(alloc, right)?))
+}
+
+/// `head arg`.
+fn applied(alloc: Global, head: Expr, arg: Expr) -> Result<Expr, ScopeError> {
+    let mut args = Items::new(alloc);
+    args.push(Arg::Plain(arg))?;
+    Ok(Expr::App(at(90), Boxed::new(alloc, head)?, args))
 }
 
 /// `text : ty`.
@@ -153,6 +168,84 @@ fn right_index(found: &Resolved) -> Option<u32> {
         ResolvedExpr::Variable(_, index) => Some(*index),
         _ => None,
     }
+}
+
+/// The type of the first signature of a postulate.
+fn postulated(found: &Resolved) -> Option<&ResolvedExpr> {
+    let Resolved::Postulate(_, lines) = found else {
+        return None;
+    };
+    let first = lines.get(0)?;
+    Some(&first.ty)
+}
+
+/// What stands behind `λ`'s arrow.
+fn behind(found: &ResolvedExpr) -> Option<&ResolvedExpr> {
+    match found {
+        ResolvedExpr::Lambda(_, _, right) => Some(right.get()),
+        _ => None,
+    }
+}
+
+/// The index of a variable.
+fn index(found: &ResolvedExpr) -> Option<u32> {
+    match found {
+        ResolvedExpr::Variable(_, index) => Some(*index),
+        _ => None,
+    }
+}
+
+/// The index of e in `λ x → λ y → λ z → e`.
+fn index_behind_three(found: &Resolved) -> Option<u32> {
+    index(behind(behind(behind(postulated(found)?)?)?)?)
+}
+
+/// The indices of e and f in `λ x → λ y → (λ z → e) f`.
+fn indices_behind_two(found: &Resolved) -> Option<(u32, u32)> {
+    let ResolvedExpr::App(_, head, args) = behind(behind(postulated(found)?)?)? else {
+        return None;
+    };
+    let ResolvedArg::Plain(arg) = args.get(0)? else {
+        return None;
+    };
+    Some((index(behind(head.get())?)?, index(arg)?))
+}
+
+/// Where x is with three variables of this text and one without a name among them, and behind each end of one of them.
+fn places_of_three(alloc: Global) -> Result<[Option<u32>; 6], NoMemory> {
+    let mut locals = Locals::new(alloc);
+    locals.push("x")?;
+    locals.push("x")?;
+    locals.push("")?;
+    let two = locals.find("x");
+    locals.push("x")?;
+    let three = locals.find("x");
+    let nameless = locals.find("");
+    locals.cut(3);
+    let again = locals.find("x");
+    locals.cut(1);
+    let one = locals.find("x");
+    locals.cut(0);
+    Ok([two, three, nameless, again, one, locals.find("x")])
+}
+
+/// A variable hides another one of its text while it is in scope: `λ x → λ y → λ x → x` and `λ x → λ y → (λ x → x) x`.
+#[test]
+fn hides(rt: HostRuntime) -> Result<(), ScopeError> {
+    let alloc = rt.alloc();
+    let mut scope = Scope::new(alloc)?;
+    let inner = lambda(alloc, "x", 4, variable(alloc, "x", 5)?)?;
+    let three = lambda(alloc, "x", 2, lambda(alloc, "y", 3, inner)?)?;
+    let found = resolve(alloc, &mut scope, &postulate(alloc, "a", 1, three)?)?;
+    assert!(rt; index_behind_three(&found) == Some(0));
+    let inner = lambda(alloc, "x", 4, variable(alloc, "x", 5)?)?;
+    let both = applied(alloc, inner, variable(alloc, "x", 6)?)?;
+    let two = lambda(alloc, "x", 2, lambda(alloc, "y", 3, both)?)?;
+    let found = resolve(alloc, &mut scope, &postulate(alloc, "b", 1, two)?)?;
+    assert!(rt; indices_behind_two(&found) == Some((0, 1)));
+    let places = places_of_three(alloc)?;
+    assert!(rt; places == [Some(1), Some(0), Some(1), Some(1), Some(0), None]);
+    Ok(())
 }
 
 /// Names of globals, and the second field of a record under its own name only behind `open`. The right side `y` of

@@ -1,8 +1,7 @@
-use Rattle.std.proofs.Common.{◌≡◌, ◌∙◌, ap, List, ℕ, map, take}
-use Rattle.std.specs.Prelude.{string_bytes, reverse}
-use Rattle.scope_check.proofs.Places.{outermost}
+use Rattle.std.proofs.Common.{arith}
+use Rattle.scope_check.proofs.Inside.{inside-drop}
 use Rattle.scope_check.proofs.locals.Locals.cut.Goals as goal
 
-pub returns : goal.returns
-returns c = λ outer inside len.
-    rw c.truncate.ensures.items (outermost string_bytes c.self.inside.texts.items c.args.len outer (rw c.self.view_is inside) len)
+pub loop-self-preserved : goal.loop-self-preserved
+loop-self-preserved c = λ outer inside is.
+    rw c.pop.ensures (inside-drop outer c.loop-self.self (c.loop-self.invariant outer inside is) (omega (arith, is, c.len.ensures, c.loop-self-test.true)))
