@@ -6,3 +6,7 @@ pub mod MentionFolds
 pub mod PatternFolds
 pub mod Places
 pub mod Puts
+pub mod Answered
+pub mod ExprCases
+pub mod PatternCases
+pub mod DeclCases

@@ -5,3 +5,8 @@ pub mod Layers
 pub mod Mentions
 pub mod Patterns
 pub mod Decls
+pub mod ResolvesNames
+pub mod ResolvesExprs
+pub mod ResolvesPatterns
+pub mod Resolves
+pub mod Laws
