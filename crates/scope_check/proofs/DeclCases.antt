@@ -12,7 +12,7 @@ use Rattle.source_tree.specs.declared.decl.RecordItem.TheVariants as i
 use Rattle.source_tree.specs.declared.decl.Decl.{Decl}
 use Rattle.source_tree.specs.declared.decl.Decl.TheVariants as d
 use Rattle.scope_check.specs.declared.error.ScopeError.TheVariants.{Bad}
-use Rattle.scope_check.specs.declared.error.ScopeKind.TheVariants.{NotInScope, Duplicate, Misplaced}
+use Rattle.scope_check.specs.declared.error.ScopeKind.TheVariants.{Duplicate, Misplaced}
 use Rattle.scope_check.specs.declared.global.GlobalId.{GlobalId}
 use Rattle.scope_check.specs.declared.global.GlobalId.TheVariants as g
 use Rattle.scope_check.specs.declared.scope.Fields.{Fields}
@@ -28,11 +28,10 @@ use Rattle.scope_check.specs.declared.resolved.ResolvedItem.TheVariants as ri
 use Rattle.scope_check.specs.declared.resolved.Resolved.{Resolved}
 use Rattle.scope_check.specs.declared.resolved.Resolved.TheVariants as rd
 use Rattle.scope_check.specs.declared.parts.Parts.{Parts}
-use Rattle.scope_check.specs.Answers.{Checked, and_then, ◌>>=◌, made, each_from, refused}
-use Rattle.scope_check.specs.Known.{Known, place_of, global_in, with_global, with_def, with_family, with_families, with_names}
+use Rattle.scope_check.specs.Answers.{Checked, and_then, made, each_from, refused}
+use Rattle.scope_check.specs.Known.{Known, global_in, with_global, with_def, with_family, with_families, with_names}
 use Rattle.scope_check.specs.Mentions.{Texts, texts, in_decl, with_text, with_texts}
 use Rattle.scope_check.specs.Exprs.{Locals, label, under, expr}
-use Rattle.scope_check.specs.Layers as layer
 use Rattle.scope_check.specs.Patterns.{patterns}
 use Rattle.scope_check.specs.Decls as spec
 use Rattle.scope_check.specs.ResolvesExprs.{ResolvesExpr, ResolvesBehind}
@@ -40,7 +39,7 @@ use Rattle.scope_check.specs.ResolvesPatterns.{ResolvesPatterns}
 use Rattle.scope_check.specs.Resolves as c
 use Rattle.scope_check.specs.Resolves.{NewNames, NewFields, PostulateLine, PostulateLines, RightSide, ResolvesClause, ResolvesClauses, ResolvesFunction, OpensFields, IsNoRecord, ConLine, ConLines, FieldLine, FieldLines, ResolvesItem, ResolvesItems, nothing_read, Declares, Resolves}
 use Rattle.scope_check.proofs.Answered.{then_by, made_by, each_first, behind, behind_none, behind_both, then_behind, then_same}
-use Rattle.scope_check.proofs.ExprCases.{expr_in, expr_at, expr_is, expr_holds, behind_of, behind_is, behind_holds, behind_then}
+use Rattle.scope_check.proofs.ExprCases.{expr_at, expr_is, expr_holds, behind_of, behind_is, behind_holds, behind_then}
 use Rattle.scope_check.proofs.PatternCases.{patterns_are, patterns_hold}
 
 -- an expression where holes may stand
@@ -121,7 +120,7 @@ unfolding spec.postulate_lines
 postulates_behind found [] k = behind_none found k
 postulates_behind found (s ∷ ss) k =
     then_behind found (spec.postulate_line k s) (λ y. spec.postulate_lines (found ++ y.0 ∷ []) ss y.1) (λ y. spec.postulate_lines (y.0 ∷ []) ss y.1)
-        (λ y. postulates_behind (found ++ y.0 ∷ []) ss y.1 ∙ behind_both found (y.0 ∷ []) (spec.postulate_lines [] ss y.1) ∙ ap (behind found) (sym (postulates_behind (y.0 ∷ []) ss y.1)))
+    (λ y. postulates_behind (found ++ y.0 ∷ []) ss y.1 ∙ behind_both found (y.0 ∷ []) (spec.postulate_lines [] ss y.1) ∙ ap (behind found) (sym (postulates_behind (y.0 ∷ []) ss y.1)))
 
 postulates_first : (s : Signature) (ss : List Signature) (k : Known) → spec.postulate_lines [] (s ∷ ss) k ≡ and_then (spec.postulate_line k s) (λ y. behind (y.0 ∷ []) (spec.postulate_lines [] ss y.1))
 unfolding spec.postulate_lines
@@ -288,7 +287,7 @@ module _ (k : Known) (ls : Locals) where
   cons_behind found [] seen = behind_none found seen
   cons_behind found (s ∷ ss) seen =
       then_behind found (spec.con_line k ls seen s) (λ y. spec.con_lines k ls (found ++ y.0 ∷ []) ss y.1) (λ y. spec.con_lines k ls (y.0 ∷ []) ss y.1)
-          (λ y. cons_behind (found ++ y.0 ∷ []) ss y.1 ∙ behind_both found (y.0 ∷ []) (spec.con_lines k ls [] ss y.1) ∙ ap (behind found) (sym (cons_behind (y.0 ∷ []) ss y.1)))
+      (λ y. cons_behind (found ++ y.0 ∷ []) ss y.1 ∙ behind_both found (y.0 ∷ []) (spec.con_lines k ls [] ss y.1) ∙ ap (behind found) (sym (cons_behind (y.0 ∷ []) ss y.1)))
 
   cons_first : (s : Signature) (ss : List Signature) (seen : Texts) → spec.con_lines k ls [] (s ∷ ss) seen ≡ and_then (spec.con_line k ls seen s) (λ y. behind (y.0 ∷ []) (spec.con_lines k ls [] ss y.1))
   unfolding spec.con_lines
@@ -329,7 +328,7 @@ module _ (k : Known) where
   lines_behind found [] r = behind_none found r
   lines_behind found (s ∷ ss) r =
       then_behind found (spec.field_line k r s) (λ y. spec.field_lines k (found ++ y.0 ∷ []) ss y.1) (λ y. spec.field_lines k (y.0 ∷ []) ss y.1)
-          (λ y. lines_behind (found ++ y.0 ∷ []) ss y.1 ∙ behind_both found (y.0 ∷ []) (spec.field_lines k [] ss y.1) ∙ ap (behind found) (sym (lines_behind (y.0 ∷ []) ss y.1)))
+      (λ y. lines_behind (found ++ y.0 ∷ []) ss y.1 ∙ behind_both found (y.0 ∷ []) (spec.field_lines k [] ss y.1) ∙ ap (behind found) (sym (lines_behind (y.0 ∷ []) ss y.1)))
 
   lines_first : (s : Signature) (ss : List Signature) (r : Parts) → spec.field_lines k [] (s ∷ ss) r ≡ and_then (spec.field_line k r s) (λ y. behind (y.0 ∷ []) (spec.field_lines k [] ss y.1))
   unfolding spec.field_lines
@@ -378,7 +377,7 @@ module _ (k : Known) where
   items_behind found [] r = behind_none found r
   items_behind found (x ∷ xs) r =
       then_behind found (spec.item k r x) (λ y. spec.items_from k (found ++ y.0 ∷ []) xs y.1) (λ y. spec.items_from k (y.0 ∷ []) xs y.1)
-          (λ y. items_behind (found ++ y.0 ∷ []) xs y.1 ∙ behind_both found (y.0 ∷ []) (spec.items_from k [] xs y.1) ∙ ap (behind found) (sym (items_behind (y.0 ∷ []) xs y.1)))
+      (λ y. items_behind (found ++ y.0 ∷ []) xs y.1 ∙ behind_both found (y.0 ∷ []) (spec.items_from k [] xs y.1) ∙ ap (behind found) (sym (items_behind (y.0 ∷ []) xs y.1)))
 
   items_first : (x : RecordItem) (xs : List RecordItem) (r : Parts) → spec.items_from k [] (x ∷ xs) r ≡ and_then (spec.item k r x) (λ y. behind (y.0 ∷ []) (spec.items_from k [] xs y.1))
   unfolding spec.items_from

@@ -1,5 +1,5 @@
 -- The cases of expressions are those of the function: what holds by the cases is what the function gives, and what it gives holds.
-use Rattle.std.proofs.Common.{◌≡◌, ◌∙◌, Ok, Err, Some, None, List, [], ◌∷◌, ◌++◌, map, ℕ, true, false, Bool, if◌then◌else◌, Option, refl, ap, sym, subst}
+use Rattle.std.proofs.Common.{◌≡◌, ◌∙◌, Ok, Err, Some, None, List, [], ◌∷◌, ◌++◌, map, ℕ, false, Bool, if◌then◌else◌, Option, refl, ap, sym, subst}
 use Rattle.source_tree.specs.declared.place.Place.{Place}
 use Rattle.source_tree.specs.declared.place.Name.{Name}
 use Rattle.source_tree.specs.declared.expr.Expr.{Expr, out-Expr, ind-Expr, roll-Expr, out-roll-Expr, map-Expr}
@@ -7,7 +7,7 @@ use Rattle.source_tree.specs.declared.expr.Arg.{Arg, out-Arg, roll-Arg, out-roll
 use Rattle.source_tree.specs.declared.expr.Binder.{Binder, out-Binder, roll-Binder, out-roll-Binder, ind-Binder, map-Binder}
 use Rattle.source_tree.specs.declared.expr.FieldValue.{FieldValue, out-FieldValue, roll-FieldValue, out-roll-FieldValue, map-FieldValue}
 use Rattle.source_tree.specs.declared.expr.Arg.TheOpen.{Expr-F, Arg-F, Binder-F, FieldValue-F}
-use Rattle.scope_check.specs.declared.error.ScopeKind.TheVariants.{NotInScope, Misplaced}
+use Rattle.scope_check.specs.declared.error.ScopeKind.TheVariants.{Misplaced}
 use Rattle.scope_check.specs.declared.global.GlobalId.{GlobalId}
 use Rattle.scope_check.specs.declared.global.GlobalId.TheVariants as g
 use Rattle.scope_check.specs.declared.head.Head.{Head}
@@ -24,7 +24,7 @@ use Rattle.scope_check.specs.declared.resolved.ResolvedBinder.{ResolvedBinder}
 use Rattle.scope_check.specs.declared.resolved.ResolvedValue.{ResolvedValue}
 use Rattle.scope_check.specs.Answers.{Checked, and_then, ◌>>=◌, made, each_from, refused}
 use Rattle.scope_check.specs.Known.{Known, place_of, global_in}
-use Rattle.scope_check.specs.Exprs.{Locals, BinderMeaning, binders_from, head_of, binder_of, value_of, expr, explicit, explicit_in, projected, projected_first, whole, named_by, by_global, named, qualified, field_at, field_of, field_named, field_in, hole_at, wholly}
+use Rattle.scope_check.specs.Exprs.{Locals, BinderMeaning, binders_from, head_of, binder_of, value_of, expr, explicit, explicit_in, projected, projected_first, whole, named_by, by_global, named, qualified, field_at, field_of, field_named, hole_at, wholly}
 use Rattle.scope_check.specs.Layers as layer
 use Rattle.scope_check.specs.ResolvesNames.{StandsForGlobal, StandsFor, StandsForField, postulate_or_function, data_or_record_type, a_constructor, a_field, not_in_scope, variable, a_global, field_in_scope, no_field_in_scope}
 use Rattle.scope_check.specs.ResolvesExprs as c
@@ -145,6 +145,7 @@ module _ (k : Known) (holes : Holes) where
 
   mutual
     unfolding each_from binders_from
+
     pub head_is : {ls : Locals} {l : ExprForm} {m : Checked Head} → ResolvesHead k holes ls l m → layer.head_in k holes ls l ≡ m
     head_is (c.name {ls = ls} {x = x} s) = name_is k ls x s
     head_is (c.qualified_name {x = x} s) = global_is k x s

@@ -2,11 +2,9 @@
 use Rattle.std.proofs.Common.{◌≡◌, ◌∙◌, Ok, Err, Some, None, List, [], ◌∷◌, ◌++◌, map, ℕ, true, false, Bool, if◌then◌else◌, Option, is_some, refl, ap, sym, subst}
 use Rattle.source_tree.specs.declared.place.Place.{Place}
 use Rattle.source_tree.specs.declared.place.Name.{Name}
-use Rattle.source_tree.specs.declared.expr.Expr.{Expr, out-Expr}
-use Rattle.source_tree.specs.declared.expr.Arg.TheOpen.{Expr-F}
 use Rattle.source_tree.specs.declared.pattern.Pattern.{Pattern, out-Pattern, ind-Pattern, roll-Pattern, out-roll-Pattern, map-Pattern}
 use Rattle.source_tree.specs.declared.pattern.Pattern.TheOpen.{Pattern-F}
-use Rattle.scope_check.specs.declared.error.ScopeKind.TheVariants.{Misplaced, Nonlinear, NotAConstructor}
+use Rattle.scope_check.specs.declared.error.ScopeKind.TheVariants.{Misplaced, Nonlinear}
 use Rattle.scope_check.specs.declared.head.Head.{Head}
 use Rattle.scope_check.specs.declared.head.Head.TheVariants.{Whole, Field}
 use Rattle.scope_check.specs.declared.holes.Holes.TheVariants as h
@@ -19,9 +17,8 @@ use Rattle.scope_check.specs.Answers.{Checked, and_then, ◌>>=◌, made, refuse
 use Rattle.scope_check.specs.Known.{Known, place_of}
 use Rattle.scope_check.specs.Mentions.{Texts, with_text}
 use Rattle.scope_check.specs.Exprs.{Locals, label, field_named, named, qualified, whole, expr}
-use Rattle.scope_check.specs.Patterns.{PatternMeaning, con_named, pattern, patterns, patterns_from, pattern_in, pattern_named, variable, variable_named, kept, dot, dotted, projection}
+use Rattle.scope_check.specs.Patterns.{PatternMeaning, con_named, pattern, patterns, patterns_from, pattern_in, pattern_named, variable, kept, dot, dotted, projection}
 use Rattle.scope_check.specs.ResolvesExprs as e
-use Rattle.scope_check.specs.ResolvesExprs.{ResolvesExpr}
 use Rattle.scope_check.specs.ResolvesPatterns as c
 use Rattle.scope_check.specs.ResolvesPatterns.{ResolvesPattern, ResolvesPatterns}
 use Rattle.scope_check.proofs.PatternFolds.{pattern_at}
@@ -33,7 +30,7 @@ unfolding patterns_from
 patterns_behind at found [] seen = behind_none found seen
 patterns_behind at found (m ∷ ms) seen =
     then_behind found (m at seen) (λ b. patterns_from at (found ++ b.0 ∷ []) ms b.1) (λ b. patterns_from at (b.0 ∷ []) ms b.1)
-        (λ b. patterns_behind at (found ++ b.0 ∷ []) ms b.1 ∙ behind_both found (b.0 ∷ []) (patterns_from at [] ms b.1) ∙ ap (behind found) (sym (patterns_behind at (b.0 ∷ []) ms b.1)))
+    (λ b. patterns_behind at (found ++ b.0 ∷ []) ms b.1 ∙ behind_both found (b.0 ∷ []) (patterns_from at [] ms b.1) ∙ ap (behind found) (sym (patterns_behind at (b.0 ∷ []) ms b.1)))
 
 -- a dotted pattern binds nothing
 dotted_kept : (seen : Texts) (p : Place) (n : Checked Head) → kept seen (dotted p n) ≡ made (λ y. (rp.Dotted p y, seen)) (and_then n whole)
@@ -63,6 +60,7 @@ module _ (k : Known) (ls : Locals) where
 
   mutual
     unfolding patterns_from
+
     pub pattern_is : {at : Depth} {seen : Texts} {l : Pattern-F Pattern} {m : Checked (ResolvedPattern × Texts)} → ResolvesPattern k ls at seen l m → pattern_in k ls at seen l ≡ m
     pattern_is (c.implicit_pattern {at = at} {seen = seen} {p = p} {q = q} d) = made_by (λ (y : ResolvedPattern × Texts). (rp.Implicit p y.0, y.1)) (pattern_at k ls at seen q ∙ pattern_is d)
     pattern_is (c.named_pattern {at = at} {seen = seen} {p = p} {x = x} {q = q} d) = made_by (λ (y : ResolvedPattern × Texts). (rp.Named p (label k x) y.0, y.1)) (pattern_at k ls at seen q ∙ pattern_is d)

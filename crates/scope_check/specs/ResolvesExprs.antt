@@ -1,6 +1,6 @@
 -- What an expression stands for under the variables around it, or its first refusal from left to right: a relation by cases. An
 -- expression is given by its form, in which the trees inside stand; `out-Expr` opens one of these.
-use Rattle.std.specs.Prelude.{◌≡◌, ℕ, true, false, List, [], ◌∷◌, ◌++◌, map, Ok, Err}
+use Rattle.std.specs.Prelude.{◌≡◌, ℕ, false, List, [], ◌∷◌, ◌++◌, map, Ok, Err}
 use Rattle.source_tree.specs.declared.place.Place.{Place}
 use Rattle.source_tree.specs.declared.place.Name.{Name}
 use Rattle.source_tree.specs.declared.expr.Expr.{Expr, out-Expr}

@@ -70,6 +70,7 @@ fn numbered(alloc: Global, scope: &mut Scope, found: &Decl) -> Result<Resolved, 
 ///
 /// The first refusal of a name from left to right: `NotInScope`, `Duplicate`, `NotAConstructor`, `Nonlinear` or `Misplaced`, at
 /// the name, with its text. Or want of memory. The scope is then as before.
+#[tactic(auto, using(crate::proofs::DeclCases::resolved_by))]
 pub fn resolve(alloc: Global, scope: &mut Scope, decl: &Decl) -> Result<Resolved, ScopeError>
     ensures resolves { Meets (Resolves scope.old decl.now) result scope.new }
     ensures refused { OnErr result (scope.new ≡ scope.old) }
