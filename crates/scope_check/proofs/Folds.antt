@@ -1,20 +1,18 @@
 -- The meaning of a tree by that of its parts.
-use Rattle.std.proofs.Common.{◌≡◌, ◌∙◌, Ok, Err, List, [], ◌∷◌, map, ℕ, refl, ap}
+use Rattle.std.proofs.Common.{◌≡◌, ◌∙◌, Ok, Err, List, [], ◌∷◌, map, refl, ap}
 use Rattle.source_tree.specs.declared.expr.Expr.{Expr, fold_out-Expr, out-Expr, map-Expr}
 use Rattle.source_tree.specs.declared.expr.Arg.{Arg, fold_out-Arg, out-Arg, map-Arg}
 use Rattle.source_tree.specs.declared.expr.Binder.{Binder, fold_out-Binder, out-Binder, map-Binder}
 use Rattle.source_tree.specs.declared.expr.FieldValue.{FieldValue, fold_out-FieldValue, out-FieldValue, map-FieldValue}
 use Rattle.scope_check.specs.declared.holes.Holes.{Holes}
 use Rattle.scope_check.specs.Known.{Known}
-use Rattle.source_tree.specs.declared.expr.Arg.TheOpen.{Expr-F, Arg-F, Binder-F, FieldValue-F}
+use Rattle.source_tree.specs.declared.expr.Arg.TheOpen.{Expr-F, Arg-F, Binder-F}
 use Rattle.source_tree.specs.declared.place.Place.{Place}
-use Rattle.source_tree.specs.declared.place.Name.{Name}
 use Rattle.scope_check.specs.declared.head.Head.{Head}
 use Rattle.scope_check.specs.declared.head.Head.TheVariants.{Whole, Field}
-use Rattle.scope_check.specs.Answers.{Checked, ◌>>=◌, each_from, and_then, refused}
-use Rattle.scope_check.specs.declared.error.ScopeKind.TheVariants.{Misplaced}
+use Rattle.scope_check.specs.Answers.{Checked, and_then}
 use Rattle.scope_check.specs.Layers as layer
-use Rattle.scope_check.specs.Exprs.{Locals, means, begins_explicit, applied, projected, ArgMeaning, BinderMeaning, ExprMeaning, ValueMeaning, arg_step, binder_step, expr_step, value_step, head_of, arg_of, binder_of, value_of}
+use Rattle.scope_check.specs.Exprs.{Locals, means, begins_explicit, applied, ArgMeaning, BinderMeaning, ExprMeaning, ValueMeaning, arg_step, binder_step, expr_step, value_step, head_of, arg_of, binder_of, value_of}
 
 module _ (k : Known) (h : Holes) where
   pub head_out : (e : Expr) → head_of k h e

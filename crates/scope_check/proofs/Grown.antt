@@ -1,5 +1,5 @@
 -- A scope that only grows.
-use Rattle.std.proofs.Common.{◌≡◌, ◌∙◌, ℕ, Bool, true, false, List, [], ◌∷◌, ◌++◌, take, drop, get_or, ◌+◌, ◌<◌, ◌≤◌, length, map, refl, sym, ap, append_assoc, Option, is_some, if◌then◌else◌}
+use Rattle.std.proofs.Common.{◌≡◌, ◌∙◌, ℕ, Bool, true, false, List, [], ◌∷◌, ◌++◌, take, length, refl, sym, ap, append_assoc, Option, is_some, if◌then◌else◌}
 use Rattle.std.proofs.lemmas.List.{append-nil}
 use Rattle.std.proofs.Math.Seq.{take-append_seam}
 use Rattle.scope_check.specs.declared.global.GlobalId.{GlobalId}

@@ -1,5 +1,5 @@
 -- Lists of results and of binders, one item further.
-use Rattle.std.proofs.Common.{◌≡◌, ◌<◌, ◌≤◌, ℕ, zero, suc, ◌+◌, List, [], ◌∷◌, ◌++◌, map, drop, take, slice_get, Some, length, get_or, refl, sym, ap, ◌∙◌, arith, Ok, Err}
+use Rattle.std.proofs.Common.{◌≡◌, ◌<◌, ◌≤◌, ℕ, zero, suc, ◌+◌, List, [], ◌∷◌, ◌++◌, map, drop, take, slice_get, Some, length, get_or, refl, sym, ap, ◌∙◌, arith, Ok}
 use Rattle.std.proofs.lemmas.Option.{slice_get_within}
 use Rattle.scope_check.specs.Answers.{Checked, and_then, each_from}
 use Rattle.scope_check.specs.Exprs.{BinderMeaning, Locals, binders_from}

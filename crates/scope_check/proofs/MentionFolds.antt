@@ -1,10 +1,10 @@
 -- The texts of a tree by those of its parts.
-use Rattle.std.proofs.Common.{◌≡◌, ◌∙◌, ◌<◌, ◌≤◌, ◌+◌, List, [], ◌∷◌, ◌++◌, map, drop, length, get_or, ℕ, refl, ap}
+use Rattle.std.proofs.Common.{◌≡◌, ◌∙◌, ◌<◌, ◌≤◌, ◌+◌, List, [], ◌++◌, map, drop, length, get_or, ℕ, refl, ap}
 use Rattle.source_tree.specs.declared.expr.Expr.{Expr, fold_out-Expr, out-Expr, map-Expr}
 use Rattle.source_tree.specs.declared.expr.Arg.{Arg, fold_out-Arg, out-Arg, map-Arg}
 use Rattle.source_tree.specs.declared.expr.Binder.{Binder, fold_out-Binder, out-Binder, map-Binder}
-use Rattle.source_tree.specs.declared.expr.FieldValue.{FieldValue, fold_out-FieldValue, out-FieldValue, map-FieldValue}
-use Rattle.source_tree.specs.declared.expr.Arg.TheOpen.{Expr-F, Arg-F, Binder-F, FieldValue-F}
+use Rattle.source_tree.specs.declared.expr.FieldValue.{FieldValue, fold_out-FieldValue, out-FieldValue}
+use Rattle.source_tree.specs.declared.expr.Arg.TheOpen.{Expr-F, Arg-F, Binder-F}
 use Rattle.source_tree.specs.declared.pattern.Pattern.{Pattern, fold_out-Pattern, out-Pattern, map-Pattern}
 use Rattle.source_tree.specs.declared.pattern.Pattern.TheOpen.{Pattern-F}
 use Rattle.scope_check.specs.Mentions.{Texts, all_of, arg_step, binder_step, expr_step, value_step, pattern_step, in_expr, in_arg, in_binder, in_value, in_pattern, expr_in, arg_in, binder_in, value_in, pattern_in}

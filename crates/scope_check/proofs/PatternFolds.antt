@@ -1,5 +1,5 @@
 -- The meaning of a pattern by that of its parts.
-use Rattle.std.proofs.Common.{◌≡◌, ◌∙◌, ◌<◌, ◌≤◌, ◌+◌, List, [], ◌∷◌, ◌++◌, map, drop, length, get_or, ℕ, Bool, true, false, ◌||◌, Option, Some, None, reverse, refl, ap, append_assoc, Ok, Err}
+use Rattle.std.proofs.Common.{◌≡◌, ◌∙◌, ◌<◌, ◌≤◌, ◌+◌, List, [], ◌∷◌, ◌++◌, map, drop, length, get_or, ℕ, Bool, false, ◌||◌, Option, Some, None, reverse, refl, ap, append_assoc, Ok}
 use Rattle.std.proofs.lemmas.List.{reverse-append}
 use Rattle.std.specs.List.{list_any}
 use Rattle.source_tree.specs.declared.place.Place.{Place}
@@ -7,7 +7,7 @@ use Rattle.source_tree.specs.declared.place.Name.{Name}
 use Rattle.source_tree.specs.declared.pattern.Pattern.{Pattern, fold_out-Pattern, out-Pattern, map-Pattern}
 use Rattle.source_tree.specs.declared.pattern.Pattern.TheOpen.{Pattern-F}
 use Rattle.scope_check.specs.declared.depth.Depth.{Depth}
-use Rattle.scope_check.specs.Answers.{Checked, and_then}
+use Rattle.scope_check.specs.Answers.{and_then}
 use Rattle.scope_check.specs.Known.{Known}
 use Rattle.scope_check.specs.Exprs.{Locals}
 use Rattle.scope_check.specs.Mentions.{Texts}

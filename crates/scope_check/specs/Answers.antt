@@ -1,6 +1,5 @@
 -- What is resolved, or the first refusal from left to right.
-use Rattle.std.specs.Prelude.{◌≡◌, ◌≢◌, ℕ, List, [], ◌∷◌, ◌++◌, codes, Result, Ok, Err}
-use Rattle.el_outside.specs.declared.place.Pos.{Pos}
+use Rattle.std.specs.Prelude.{◌≡◌, ◌≢◌, List, [], ◌∷◌, ◌++◌, codes, Result, Ok, Err}
 use Rattle.source_tree.specs.declared.place.Place.{Place}
 use Rattle.source_tree.specs.declared.place.Name.{Name}
 use Rattle.scope_check.specs.declared.error.ScopeError.{ScopeError}
@@ -18,6 +17,10 @@ and_then (Err e) f = Err e
 infixl 10 ◌>>=◌
 abbrev pub ◌>>=◌ : {A B : Type 0} → Checked A → (A → Checked B) → Checked B
 m >>= f = and_then m f
+
+-- f of what is resolved; a refusal stays as it is
+abbrev pub made : {A B : Type 0} → (A → B) → Checked A → Checked B
+made f m = m >>= (λ x. Ok (f x))
 
 -- a name is refused: at its place, with its text
 abbrev pub refused : {A : Type 0} → ScopeKind → Name → Checked A
@@ -41,6 +44,11 @@ Answers s (Err e) = e ≢ NoMemory → s ≡ Err e
 abbrev pub Binds : {A B : Type 0} → Checked (A × B) → Result A ScopeError → B → Type 0
 Binds s (Ok x) ls = s ≡ Ok (x, ls)
 Binds s (Err e) ls = e ≢ NoMemory → s ≡ Err e
+
+-- the answer, with b behind it, stands in this relation, unless memory ran out
+abbrev pub Meets : {A B : Type 0} → (Checked (A × B) → Type 0) → Result A ScopeError → B → Type 0
+Meets R (Ok x) b = R (Ok (x, b))
+Meets R (Err e) b = e ≢ NoMemory → R (Err e)
 
 -- what is left is b, unless memory ran out
 abbrev pub Leaves : {B : Type 0} → Checked B → Result (Unit {0}) ScopeError → B → Type 0

@@ -1,5 +1,6 @@
--- What a declaration stands for, and what is in scope behind it, or the first refusal.
-use Rattle.std.specs.Prelude.{◌≡◌, ℕ, ◌+◌, Bool, true, false, not, ◌||◌, ◌&&◌, List, [], ◌∷◌, ◌++◌, map, reverse, length, take, Option, Some, None, is_some, if◌then◌else◌, slice_get, codes, Ok, Err}
+-- What a declaration stands for, and what is in scope behind it, or the first refusal, as a function: what `Resolves` says, as the
+-- code goes.
+use Rattle.std.specs.Prelude.{ℕ, ◌+◌, Bool, true, false, ◌||◌, List, [], ◌∷◌, ◌++◌, map, Option, Some, None, is_some, if◌then◌else◌, slice_get, Ok, Err}
 use Rattle.std.specs.List.{list_any}
 use Rattle.std.specs.Str.{bytes_eq}
 use Rattle.source_tree.specs.declared.place.Place.{Place}
@@ -21,7 +22,6 @@ use Rattle.scope_check.specs.declared.scope.Fields.{Fields}
 use Rattle.scope_check.specs.declared.holes.Holes.TheVariants as h
 use Rattle.scope_check.specs.declared.depth.Depth.TheVariants.{Outer}
 use Rattle.scope_check.specs.declared.resolved.ResolvedExpr.{ResolvedExpr}
-use Rattle.scope_check.specs.declared.resolved.ResolvedBinder.{ResolvedBinder}
 use Rattle.scope_check.specs.declared.resolved.ResolvedClause.{ResolvedClause}
 use Rattle.scope_check.specs.declared.resolved.ResolvedSignature.{ResolvedSignature}
 use Rattle.scope_check.specs.declared.resolved.ResolvedItem.{ResolvedItem}
@@ -29,7 +29,7 @@ use Rattle.scope_check.specs.declared.resolved.ResolvedItem.TheVariants as ri
 use Rattle.scope_check.specs.declared.resolved.Resolved.{Resolved}
 use Rattle.scope_check.specs.declared.resolved.Resolved.TheVariants as rd
 use Rattle.scope_check.specs.declared.parts.Parts.{Parts}
-use Rattle.scope_check.specs.Answers.{Checked, and_then, ◌>>=◌, each_from, refused}
+use Rattle.scope_check.specs.Answers.{Checked, ◌>>=◌, each_from, refused}
 use Rattle.scope_check.specs.Known.{Known, place_of, global_in, with_global, with_def, with_con, with_nameless_con, with_field, with_family, with_families, with_names}
 use Rattle.scope_check.specs.Mentions.{Texts, texts, all_of, in_decl, with_text, with_texts}
 use Rattle.scope_check.specs.Exprs.{Locals, label, under, expr}

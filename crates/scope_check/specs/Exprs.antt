@@ -1,5 +1,5 @@
--- The meaning of an expression: the tree in which each name is resolved, or the first refusal.
-use Rattle.std.specs.Prelude.{ℕ, Bool, true, false, if◌then◌else◌, List, [], ◌∷◌, ◌++◌, map, reverse, Option, Some, None, option_and_then, Ok, Err}
+-- The meaning of an expression, as a function: the tree in which each name is resolved, or the first refusal.
+use Rattle.std.specs.Prelude.{ℕ, Bool, true, false, if◌then◌else◌, List, [], ◌∷◌, ◌++◌, map, reverse, Option, Some, None, option_and_then, Ok}
 use Rattle.source_tree.specs.declared.place.Place.{Place}
 use Rattle.source_tree.specs.declared.place.Name.{Name}
 use Rattle.source_tree.specs.declared.expr.Expr.{Expr, fold-Expr}
@@ -23,7 +23,7 @@ use Rattle.scope_check.specs.declared.resolved.ResolvedArg.TheOpen.{ResolvedExpr
 use Rattle.scope_check.specs.declared.resolved.ResolvedBinder.{ResolvedBinder}
 use Rattle.scope_check.specs.declared.resolved.ResolvedBinder.TheVariants as rb
 use Rattle.scope_check.specs.declared.resolved.ResolvedValue.{ResolvedValue}
-use Rattle.scope_check.specs.Answers.{Checked, and_then, ◌>>=◌, refused, refused_hole, each_from}
+use Rattle.scope_check.specs.Answers.{Checked, ◌>>=◌, refused, refused_hole, each_from}
 use Rattle.scope_check.specs.Known.{Known, place_of, number, global_in}
 
 -- the texts of the variables around, the innermost first; a variable without a name has the empty text, which no name has

@@ -1,5 +1,5 @@
 -- The meaning of one level of an expression, by that of the trees inside: what the parts of the code that walk down a tree say.
-use Rattle.std.specs.Prelude.{ℕ, Bool, true, false, if◌then◌else◌, List, [], ◌∷◌, ◌++◌, map, Ok}
+use Rattle.std.specs.Prelude.{ℕ, Bool, true, false, if◌then◌else◌, List, [], ◌∷◌, map, Ok}
 use Rattle.source_tree.specs.declared.place.Place.{Place}
 use Rattle.source_tree.specs.declared.place.Name.{Name}
 use Rattle.source_tree.specs.declared.expr.Expr.{Expr}
@@ -18,7 +18,7 @@ use Rattle.scope_check.specs.declared.resolved.ResolvedArg.TheVariants as ra
 use Rattle.scope_check.specs.declared.resolved.ResolvedBinder.{ResolvedBinder}
 use Rattle.scope_check.specs.declared.resolved.ResolvedBinder.TheVariants as rb
 use Rattle.scope_check.specs.declared.resolved.ResolvedValue.{ResolvedValue}
-use Rattle.scope_check.specs.Answers.{Checked, and_then, ◌>>=◌, refused, each_from}
+use Rattle.scope_check.specs.Answers.{Checked, ◌>>=◌, refused, each_from}
 use Rattle.scope_check.specs.Known.{Known}
 use Rattle.scope_check.specs.Exprs.{Locals, label, named, qualified, field_of, projected, means, under, binders_from, wholly, hole_at, head_of, arg_of, binder_of, value_of, expr}
 

@@ -6,3 +6,8 @@ pub mod Mentions
 pub mod Patterns
 pub mod Decls
 pub mod Innermost
+pub mod ResolvesNames
+pub mod ResolvesExprs
+pub mod ResolvesPatterns
+pub mod Resolves
+pub mod Laws

@@ -1,9 +1,8 @@
--- The meaning of the patterns of a left side.
-use Rattle.std.specs.Prelude.{ℕ, Bool, true, false, ◌||◌, List, [], ◌∷◌, ◌++◌, map, reverse, Option, Some, None, is_some, if◌then◌else◌, Ok}
+-- The meaning of the patterns of a left side, as a function.
+use Rattle.std.specs.Prelude.{ℕ, Bool, true, false, List, [], ◌∷◌, ◌++◌, map, reverse, Option, Some, None, is_some, if◌then◌else◌, Ok}
 use Rattle.std.specs.List.{list_any}
 use Rattle.source_tree.specs.declared.place.Place.{Place}
 use Rattle.source_tree.specs.declared.place.Name.{Name}
-use Rattle.source_tree.specs.declared.expr.Expr.{Expr}
 use Rattle.source_tree.specs.declared.pattern.Pattern.{Pattern, fold-Pattern}
 use Rattle.source_tree.specs.declared.pattern.Pattern.TheOpen.{Pattern-F}
 use Rattle.scope_check.specs.declared.error.ScopeKind.TheVariants.{Misplaced, Nonlinear, NotAConstructor}
@@ -15,7 +14,7 @@ use Rattle.scope_check.specs.declared.depth.Depth.TheVariants.{Outer, Inner}
 use Rattle.scope_check.specs.declared.head.Head.{Head}
 use Rattle.scope_check.specs.declared.resolved.ResolvedPattern.{ResolvedPattern}
 use Rattle.scope_check.specs.declared.resolved.ResolvedPattern.TheVariants as rp
-use Rattle.scope_check.specs.Answers.{Checked, and_then, ◌>>=◌, refused}
+use Rattle.scope_check.specs.Answers.{Checked, ◌>>=◌, refused}
 use Rattle.scope_check.specs.Known.{Known, place_of, global_in}
 use Rattle.scope_check.specs.Mentions.{Texts, all_of, with_text}
 use Rattle.scope_check.specs.Exprs.{Locals, label, named, qualified, field_named, whole, expr}

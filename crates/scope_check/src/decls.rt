@@ -1,7 +1,8 @@
 ghost use Rattle.std.specs.Prelude.{◌≡◌, OnErr};
-ghost use Rattle.scope_check.specs.Answers.{Binds};
+ghost use Rattle.scope_check.specs.Answers.{Binds, Meets};
 ghost use Rattle.scope_check.specs.Decls as spec;
 ghost use Rattle.scope_check.specs.Known.{Grows};
+ghost use Rattle.scope_check.specs.Resolves.{Resolves};
 
 use crate::error::{ScopeError, ScopeKind};
 use crate::families::data;
@@ -69,8 +70,9 @@ fn numbered(alloc: Global, scope: &mut Scope, found: &Decl) -> Result<Resolved, 
 ///
 /// The first refusal of a name from left to right: `NotInScope`, `Duplicate`, `NotAConstructor`, `Nonlinear` or `Misplaced`, at
 /// the name, with its text. Or want of memory. The scope is then as before.
+#[tactic(auto, using(crate::proofs::DeclCases::resolved_by))]
 pub fn resolve(alloc: Global, scope: &mut Scope, decl: &Decl) -> Result<Resolved, ScopeError>
-    ensures resolves { Binds (spec.resolved scope.old decl.now) result scope.new }
+    ensures resolves { Meets (Resolves scope.old decl.now) result scope.new }
     ensures refused { OnErr result (scope.new ≡ scope.old) }
     ensures grows { Grows scope.old scope.new }
 {

@@ -12,6 +12,7 @@ mod functions;
 mod global;
 mod head;
 mod holes;
+pub mod laws;
 mod locals;
 mod mentions;
 mod names;

@@ -1,4 +1,4 @@
-use Rattle.std.proofs.Common.{◌≡◌, ◌∙◌, refl, rules, arith}
+use Rattle.std.proofs.Common.{rules, arith}
 use Rattle.std.proofs.lemmas.Grind.{common_steps}
 use Rattle.scope_check.specs.Patterns as spec
 use Rattle.scope_check.proofs.PatternFolds.{absurd_at, any_next, any_end}

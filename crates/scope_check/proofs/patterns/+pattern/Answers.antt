@@ -1,4 +1,4 @@
-use Rattle.std.proofs.Common.{◌≡◌, ◌∙◌, refl, rules, arith}
+use Rattle.std.proofs.Common.{◌∙◌, rules, arith}
 use Rattle.std.proofs.lemmas.Grind.{common_steps}
 use Rattle.scope_check.proofs.PatternFolds.{pattern_at, patterns_next, patterns_end}
 use Rattle.scope_check.proofs.patterns.+pattern.Goals as goal

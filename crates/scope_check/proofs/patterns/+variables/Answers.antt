@@ -1,4 +1,4 @@
-use Rattle.std.proofs.Common.{◌≡◌, ◌∙◌, ◌+◌, List, ℕ, map, drop, sym, ap}
+use Rattle.std.proofs.Common.{◌∙◌, ◌+◌, map, drop, sym, ap}
 use Rattle.scope_check.specs.Mentions.{Texts, all_of}
 use Rattle.scope_check.specs.Patterns as spec
 use Rattle.scope_check.proofs.MentionFolds.{all_next, all_end}

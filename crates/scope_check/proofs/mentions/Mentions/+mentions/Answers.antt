@@ -1,7 +1,7 @@
-use Rattle.std.proofs.Common.{◌≡◌, ◌∙◌, [], ◌++◌, List, ℕ, ap, sym, rules, arith}
+use Rattle.std.proofs.Common.{rules, arith}
 use Rattle.std.proofs.lemmas.Grind.{common_steps}
 use Rattle.scope_check.specs.Mentions as spec
-use Rattle.scope_check.proofs.MentionFolds.{expr_at, arg_at, binder_at, value_at, pattern_at, all_next, all_end}
+use Rattle.scope_check.proofs.MentionFolds.{expr_at, arg_at, binder_at, value_at, all_next, all_end}
 use Rattle.scope_check.proofs.mentions.Mentions.+mentions.Goals as goal
 
 pub expr-returns : goal.expr-returns

@@ -1,7 +1,7 @@
-use Rattle.std.proofs.Common.{◌≡◌, ◌∙◌, [], ◌++◌, List, ℕ, ap, sym, rules, arith}
+use Rattle.std.proofs.Common.{rules, arith}
 use Rattle.std.proofs.lemmas.Grind.{common_steps}
 use Rattle.scope_check.specs.Mentions as spec
-use Rattle.scope_check.proofs.MentionFolds.{expr_at, arg_at, binder_at, value_at, pattern_at, all_next, all_end}
+use Rattle.scope_check.proofs.MentionFolds.{all_next, all_end}
 use Rattle.scope_check.proofs.mentions.Mentions.signatures.Goals as goal
 
 pub loop-one-preserved : goal.loop-one-preserved

@@ -1,8 +1,7 @@
-use Rattle.std.proofs.Common.{◌≡◌, ◌∙◌, ap, is_some, false, List, ℕ, map, refl, sym, rules, arith}
+use Rattle.std.proofs.Common.{◌≡◌, ap, is_some, false, rules, arith}
 use Rattle.std.specs.String.{string_bytes}
 use Rattle.std.proofs.lemmas.Grind.{common_steps}
-use Rattle.scope_check.specs.declared.global.GlobalId.{GlobalId}
-use Rattle.scope_check.specs.Known.{Known, global_in, with_global}
+use Rattle.scope_check.specs.Known.{Known, global_in}
 use Rattle.scope_check.proofs.Puts.{globals-put}
 use Rattle.scope_check.proofs.scope.Scope.declare.Goals as goal
 

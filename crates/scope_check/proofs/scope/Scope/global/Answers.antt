@@ -1,6 +1,5 @@
-use Rattle.std.proofs.Common.{◌∙◌, ap, List, ℕ}
+use Rattle.std.proofs.Common.{◌∙◌, ap}
 use Rattle.std.specs.String.{string_bytes}
-use Rattle.scope_check.specs.declared.global.GlobalId.{GlobalId}
 use Rattle.scope_check.specs.Known.{Known, global_in}
 use Rattle.scope_check.proofs.Places.{lookup-global_in}
 use Rattle.scope_check.proofs.scope.Scope.global.Goals as goal

@@ -1,5 +1,4 @@
-use Rattle.std.proofs.Common.{◌≡◌, ◌∙◌, [], List, ℕ, sym, ap, map, rules, arith}
-use Rattle.std.proofs.lemmas.Grind.{common_steps}
+use Rattle.std.proofs.Common.{◌∙◌, List, sym, ap, map}
 use Rattle.scope_check.specs.Known.{with_names}
 use Rattle.scope_check.specs.Mentions.{with_texts}
 use Rattle.scope_check.proofs.Loops.{none_left}
