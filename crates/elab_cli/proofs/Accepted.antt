@@ -1,11 +1,13 @@
 -- The signature that is made of declarations is derivable.
-use Rattle.std.proofs.Common.{◌≡◌, ℕ, ◌+◌, max, Bool, true, false, ◌&&◌, List, [], ◌∷◌, ◌++◌, Some, None, refl, sym, slice_get}
+use Rattle.std.proofs.Common.{◌≡◌, ℕ, ◌+◌, max, Bool, true, false, ◌&&◌, List, [], ◌∷◌, ◌++◌, Some, None, Ok, refl, sym, slice_get, append_assoc}
+use Rattle.std.proofs.lemmas.List.{append-nil}
+use Rattle.std.specs.Prelude.{Result}
+use Rattle.elab_cli.specs.declared.error.LoadError.{LoadError}
 use Rattle.std.proofs.Common.{subst as along}
 use Rattle.std.specs.declared.option.Option.{Option}
 use Rattle.std.specs.Prelude.{option_map, option_and_then, is_some, if◌then◌else◌}
 use Rattle.std.proofs.lemmas.Bool.{and_parts}
 use Rattle.core_rules.specs.declared.Flag.{Flag}
-use Rattle.core_rules.specs.declared.Flag.TheVariants.{Explicit}
 use Rattle.core_rules.specs.Term.{Term, Var, Sort, Pi, Lam, App, Def, Fam, Con, Proj, Meta, HasNoMeta}
 use Rattle.core_rules.specs.Substitution.{shift, subst}
 use Rattle.core_rules.specs.Signature.{Entry, Context, Signature, Postulate}
@@ -15,10 +17,18 @@ use Rattle.core_rules.specs.Derivable.{Good, Derivable}
 use Rattle.core_rules.proofs.Conversion.Names.{same_term as converts}
 use Rattle.core_rules.proofs.Signature.Growth.{derivable-extended}
 use Rattle.core_rules.proofs.Derivations.{derivable-empty}
-use Rattle.elab_cli.specs.Words.{Written, Atom, Atoms, Applied, Arrow, Bound, Name, Set, Paren, NoAtom, AndAtom, binders, atom_binders, atoms_binders}
-use Rattle.elab_cli.specs.Form.{Line}
+use Rattle.core_rules.proofs.Signature.Known.{type-known}
+use Rattle.scope_check.specs.declared.resolved.ResolvedName.{ResolvedName}
+use Rattle.scope_check.specs.declared.resolved.ResolvedSignature.{ResolvedSignature}
+use Rattle.scope_check.specs.declared.resolved.Resolved.{Resolved}
+use Rattle.scope_check.specs.declared.resolved.Resolved.TheVariants as r
+use Rattle.scope_check.specs.Known.{Known}
+use Rattle.source_tree.specs.declared.decl.Decl.{Decl}
+use Rattle.source_tree.specs.declared.decl.File.{File}
+use Rattle.elab_cli.specs.Translated.{term_of}
+use Rattle.elab_cli.specs.Load.{Declares, DeclaresFile}
 use Rattle.elab_cli.specs.Equal.{same_flag, same_term}
-use Rattle.elab_cli.specs.Accept.{place_of, named_by, pi_of, app_of, resolved, resolved_atom, spine, sort_level, at_argument, applied, sort_of_pi, type_of, level_of, with_type, with_line, with_lines, signature_of}
+use Rattle.elab_cli.specs.Accept.{sort_level, at_argument, applied, sort_of_pi, type_of, level_of, postulates, with_type, with_line, with_lines, with_decl}
 use Rattle.elab_cli.proofs.Equal.{same_flag-is, same_term-is}
 
 -- ---- types
@@ -103,81 +113,112 @@ typed g c (Meta m ts) a e = cc
 pub sorted : (g : Signature Term) (c : Context Term) (t : Term) (n : ℕ) → level_of g c t ≡ Some n → HasSort g c t
 sorted g c t n e = record { level = n; holds = leveled g c t (type_of g c t) n (typed g c t) e }
 
--- ---- names
+-- ---- a larger signature
 
--- no metavariable stands in the term, if there is one
-abbrev NoMetaIn : Option Term → Type 0
-NoMetaIn o = (t : Term) → o ≡ Some t → HasNoMeta t
+module _ (g h : Signature Term) where
+  level-grown : (o p : Option Term) (k : ℕ) → ((a : Term) → o ≡ Some a → p ≡ Some a) → option_and_then sort_level o ≡ Some k → option_and_then sort_level p ≡ Some k
+  level-grown (Some a) p k same e = rw (same a refl) e
+  level-grown None p k same e = cc
 
-no_meta_in : (t : Term) → HasNoMeta t → NoMetaIn (Some t)
-no_meta_in t h u e = let is : t ≡ u = cc in along HasNoMeta is h
+  pi-grown : (m n i j : Option ℕ) (a : Term) → ((k : ℕ) → m ≡ Some k → i ≡ Some k) → ((k : ℕ) → n ≡ Some k → j ≡ Some k) → sort_of_pi m n ≡ Some a → sort_of_pi i j ≡ Some a
+  pi-grown (Some m) (Some n) i j a p q e = rw (p m refl, q n refl) e
+  pi-grown (Some m) None i j a p q e = cc
+  pi-grown None n i j a p q e = cc
 
-no_meta_named : (o p : Option ℕ) → NoMetaIn (named_by o p)
-no_meta_named (Some i) p = no_meta_in (Var i) tt
-no_meta_named None (Some f) = no_meta_in (Def f) tt
-no_meta_named None None = λ t e. cc
+  app-grown : (b : Flag) (u : Term) (f s i j : Option Term) (a : Term) → ((v : Term) → f ≡ Some v → i ≡ Some v) → ((v : Term) → s ≡ Some v → j ≡ Some v) → applied b f s u ≡ Some a → applied b i j u ≡ Some a
+  app-grown b u (Some f) (Some s) i j a p q e = rw (p f refl, q s refl) e
+  app-grown b u (Some f) None i j a p q e = cc
+  app-grown b u None s i j a p q e = cc
 
-no_meta_pi : (x : ℕ) (o p : Option Term) → NoMetaIn o → NoMetaIn p → NoMetaIn (pi_of x o p)
-no_meta_pi x (Some a) (Some b) h k = no_meta_in (Pi Explicit x a b) (h a refl, k b refl)
-no_meta_pi x (Some a) None h k = λ t e. cc
-no_meta_pi x None p h k = λ t e. cc
+  -- what has a type has it over a larger signature
+  type-grown : (c : Context Term) (t a : Term) → type_of g c t ≡ Some a → type_of (g ++ h) c t ≡ Some a
+  type-grown c (Var i) a e = e
+  type-grown c (Sort n) a e = e
+  type-grown c (Pi b x s t) a e =
+      pi-grown (level_of g c s) (level_of g (entry b x s ∷ c) t) (level_of (g ++ h) c s) (level_of (g ++ h) (entry b x s ∷ c) t) a
+      (λ k. level-grown (type_of g c s) (type_of (g ++ h) c s) k (type-grown c s))
+      (λ k. level-grown (type_of g (entry b x s ∷ c) t) (type_of (g ++ h) (entry b x s ∷ c) t) k (type-grown (entry b x s ∷ c) t)) e
+  type-grown c (App b t u) a e = app-grown b u (type_of g c t) (type_of g c u) (type_of (g ++ h) c t) (type_of (g ++ h) c u) a (type-grown c t) (type-grown c u) e
+  type-grown c (Def f) a e = type-known g h f a e
+  type-grown c (Lam b x s t) a e = cc
+  type-grown c (Fam d) a e = cc
+  type-grown c (Con k ts) a e = cc
+  type-grown c (Proj f t) a e = cc
+  type-grown c (Meta m ts) a e = cc
 
-no_meta_app : (o p : Option Term) → NoMetaIn o → NoMetaIn p → NoMetaIn (app_of o p)
-no_meta_app (Some t) (Some u) h k = no_meta_in (App Explicit t u) (h t refl, k u refl)
-no_meta_app (Some t) None h k = λ t e. cc
-no_meta_app None p h k = λ t e. cc
+-- ---- what has a type has no metavariable
 
-module _ (ns : List (List ℕ)) where
-  mutual
-    no_meta : (bs : List (List ℕ)) (k : ℕ) (w : Written) → NoMetaIn (resolved ns bs k w)
-    no_meta bs k (Applied a more) = no_meta_spine bs (resolved_atom ns bs k a) (k + atom_binders a) more (no_meta_atom bs k a)
-    no_meta bs k (Arrow a more b) =
-        no_meta_pi 0 (spine ns bs (resolved_atom ns bs k a) (k + atom_binders a) more) (resolved ns ([] ∷ bs) (k + atom_binders a + atoms_binders more) b)
-        (no_meta_spine bs (resolved_atom ns bs k a) (k + atom_binders a) more (no_meta_atom bs k a))
-        (no_meta ([] ∷ bs) (k + atom_binders a + atoms_binders more) b)
-    no_meta bs k (Bound x a b) =
-        no_meta_pi k (resolved ns bs (k + 1) a) (resolved ns (x ∷ bs) (k + 1 + binders a) b) (no_meta bs (k + 1) a) (no_meta (x ∷ bs) (k + 1 + binders a) b)
+level-of : {A : Type 0} (o : Option Term) (k : ℕ) → ((a : Term) → o ≡ Some a → A) → option_and_then sort_level o ≡ Some k → A
+level-of (Some a) k has e = has a refl
+level-of None k has e = absurd cc
 
-    no_meta_atom : (bs : List (List ℕ)) (k : ℕ) (a : Atom) → NoMetaIn (resolved_atom ns bs k a)
-    no_meta_atom bs k (Name x) = no_meta_named (place_of bs x) (place_of ns x)
-    no_meta_atom bs k Set = no_meta_in (Sort 0) tt
-    no_meta_atom bs k (Paren a) = no_meta bs k a
+pi-parts : {A B : Type 0} (m n : Option ℕ) (a : Term) → ((k : ℕ) → m ≡ Some k → A) → ((k : ℕ) → n ≡ Some k → B) → sort_of_pi m n ≡ Some a → A × B
+pi-parts (Some m) (Some n) a p q e = (p m refl, q n refl)
+pi-parts (Some m) None a p q e = absurd cc
+pi-parts None n a p q e = absurd cc
 
-    no_meta_spine : (bs : List (List ℕ)) (f : Option Term) (k : ℕ) (more : Atoms) → NoMetaIn f → NoMetaIn (spine ns bs f k more)
-    no_meta_spine bs f k NoAtom h = h
-    no_meta_spine bs f k (AndAtom a more) h =
-        no_meta_spine bs (app_of f (resolved_atom ns bs k a)) (k + atom_binders a) more (no_meta_app f (resolved_atom ns bs k a) h (no_meta_atom bs k a))
+app-parts : {A B : Type 0} (b : Flag) (u : Term) (f s : Option Term) (a : Term) → ((v : Term) → f ≡ Some v → A) → ((v : Term) → s ≡ Some v → B) → applied b f s u ≡ Some a → A × B
+app-parts b u (Some f) (Some s) a p q e = (p f refl, q s refl)
+app-parts b u (Some f) None a p q e = absurd cc
+app-parts b u None s a p q e = absurd cc
+
+no_meta : (g : Signature Term) (c : Context Term) (t a : Term) → type_of g c t ≡ Some a → HasNoMeta t
+no_meta g c (Var i) a e = tt
+no_meta g c (Sort n) a e = tt
+no_meta g c (Pi b x s t) a e =
+    pi-parts (level_of g c s) (level_of g (entry b x s ∷ c) t) a
+    (λ k. level-of (type_of g c s) k (no_meta g c s)) (λ k. level-of (type_of g (entry b x s ∷ c) t) k (no_meta g (entry b x s ∷ c) t)) e
+no_meta g c (App b t u) a e = app-parts b u (type_of g c t) (type_of g c u) a (no_meta g c t) (no_meta g c u) e
+no_meta g c (Def f) a e = tt
+no_meta g c (Lam b x s t) a e = absurd cc
+no_meta g c (Fam d) a e = absurd cc
+no_meta g c (Con k ts) a e = absurd cc
+no_meta g c (Proj f t) a e = absurd cc
+no_meta g c (Meta m ts) a e = absurd cc
 
 -- ---- declarations
 
-with_type_derivable : (k : ℕ) (g h : Signature Term) (t : Term) → Derivable g → HasNoMeta t → with_type k g t ≡ Some h → Derivable h
-with_type_derivable k g h t der none e = of (level_of g [] t) refl e
+posts_derivable : (g : Signature Term) (xs : List ResolvedName) (t : Term) (l : ℕ) → Derivable g → level_of g [] t ≡ Some l → HasNoMeta t → Derivable (g ++ postulates xs t)
+posts_derivable g [] t l der is none = along Derivable (sym (append-nil g)) der
+posts_derivable g (x ∷ xs) t l der is none =
+    along Derivable (append_assoc g (Postulate x.id t ∷ []) (postulates xs t))
+    (posts_derivable (g ++ Postulate x.id t ∷ []) xs t l (derivable-extended g (Postulate x.id t) der (Good.postulate (sorted g [] t l is)) none)
+    (level-grown g (Postulate x.id t ∷ []) (type_of g [] t) (type_of (g ++ Postulate x.id t ∷ []) [] t) l (type-grown g (Postulate x.id t ∷ []) [] t) is) none)
+
+type_derivable : (g h : Signature Term) (xs : List ResolvedName) (t : Term) → Derivable g → with_type g xs t ≡ Some h → Derivable h
+type_derivable g h xs t der e = of (level_of g [] t) refl e
   where
-    of : (o : Option ℕ) → level_of g [] t ≡ o → (if is_some o then Some (g ++ Postulate k t ∷ []) else None) ≡ Some h → Derivable h
-    of None is q = cc
-    of (Some l) is q =
-        let same : g ++ Postulate k t ∷ [] ≡ h = cc in
-        along Derivable same (derivable-extended g (Postulate k t) der (Good.postulate (sorted g [] t l is)) none)
+    of : (o : Option ℕ) → level_of g [] t ≡ o → (if is_some o then Some (g ++ postulates xs t) else None) ≡ Some h → Derivable h
+    of None is q = absurd cc
+    of (Some l) is q = let same : g ++ postulates xs t ≡ h = cc in along Derivable same (posts_derivable g xs t l der is (level-of (type_of g [] t) l (no_meta g [] t) is))
 
-with_line_derivable : (k : ℕ) (ns : List (List ℕ)) (g h : Signature Term) (l : Line) → Derivable g → with_line k ns g l ≡ Some h → Derivable h
-with_line_derivable k ns g h l der e = fresh (place_of ns l.name) e
+line_derivable : (g h : Signature Term) (s : ResolvedSignature) → Derivable g → with_line g s ≡ Some h → Derivable h
+line_derivable g h s der e = of (term_of s.ty) e
   where
-    of : (o : Option Term) → NoMetaIn o → option_and_then (with_type (k + binders l.ty) g) o ≡ Some h → Derivable h
-    of None none q = cc
-    of (Some t) none q = with_type_derivable (k + binders l.ty) g h t der (none t refl) q
+    of : (o : Option Term) → option_and_then (with_type g s.names) o ≡ Some h → Derivable h
+    of None q = absurd cc
+    of (Some t) q = type_derivable g h s.names t der q
 
-    fresh : (o : Option ℕ) → (if is_some o then None else option_and_then (with_type (k + binders l.ty) g) (resolved ns [] k l.ty)) ≡ Some h → Derivable h
-    fresh None q = of (resolved ns [] k l.ty) (no_meta ns [] k l.ty) q
-    fresh (Some i) q = cc
-
-pub with_lines_derivable : (k : ℕ) (ns : List (List ℕ)) (g h : Signature Term) (ls : List Line) → Derivable g → with_lines k ns g ls ≡ Some h → Derivable h
-with_lines_derivable k ns g h [] der e = let same : g ≡ h = cc in along Derivable same der
-with_lines_derivable k ns g h (l ∷ ls) der e = of (with_line k ns g l) refl e (λ f. with_lines_derivable (k + binders l.ty + 1) (ns ++ l.name ∷ []) f h ls)
+lines_derivable : (g h : Signature Term) (ss : List ResolvedSignature) → Derivable g → with_lines g ss ≡ Some h → Derivable h
+lines_derivable g h [] der e = let same : g ≡ h = cc in along Derivable same der
+lines_derivable g h (s ∷ ss) der e = of (with_line g s) refl e (λ f. lines_derivable f h ss)
   where
-    of : (o : Option (Signature Term)) → with_line k ns g l ≡ o → option_and_then (λ f. with_lines (k + binders l.ty + 1) (ns ++ l.name ∷ []) f ls) o ≡ Some h
-        → ((f : Signature Term) → Derivable f → with_lines (k + binders l.ty + 1) (ns ++ l.name ∷ []) f ls ≡ Some h → Derivable h) → Derivable h
-    of None is q rest = cc
-    of (Some f) is q rest = rest f (with_line_derivable k ns g f l der is) q
+    of : (o : Option (Signature Term)) → with_line g s ≡ o → option_and_then (λ f. with_lines f ss) o ≡ Some h → ((f : Signature Term) → Derivable f → with_lines f ss ≡ Some h → Derivable h) → Derivable h
+    of None is q rest = absurd cc
+    of (Some f) is q rest = rest f (line_derivable g f s der is) q
 
-pub signature_derivable : (ls : List Line) (g : Signature Term) → signature_of ls ≡ Some g → Derivable g
-signature_derivable ls g e = with_lines_derivable 1 [] [] g ls derivable-empty e
+decl_derivable : (g h : Signature Term) (d : Resolved) → Derivable g → with_decl g d ≡ Some h → Derivable h
+decl_derivable g h (r.Postulate p ss) der e = lines_derivable g h ss der e
+decl_derivable g h (r.Function p s cs) der e = absurd cc
+decl_derivable g h (r.Open p d b) der e = absurd cc
+decl_derivable g h (r.«Data» p x bs a ss) der e = absurd cc
+decl_derivable g h (r.Record p x bs a xs) der e = absurd cc
+
+declares_derivable : {k : Known} {g : Signature Term} {ds : List Decl} {o : Result (Signature Term) LoadError} → Declares k g ds o → Derivable g → (h : Signature Term) → o ≡ Ok h → Derivable h
+declares_derivable Declares.none der h e = let same : _ ≡ h = cc in along Derivable same der
+declares_derivable (Declares.unresolved is) der h e = absurd cc
+declares_derivable (Declares.refused is none) der h e = absurd cc
+declares_derivable (Declares.declared {g = g} {h = f} {r = d} is some rest) der h e = declares_derivable rest (decl_derivable g f d der some) h e
+
+pub signature_derivable : (file : File) (g : Signature Term) → DeclaresFile file (Ok g) → Derivable g
+signature_derivable file g h = declares_derivable h derivable-empty g refl

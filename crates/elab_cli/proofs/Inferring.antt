@@ -1,8 +1,8 @@
 -- The kernel's reading of terms of a pool: what stays as the pool grows, and the steps of the reading.
-use Rattle.std.proofs.Common.{◌≡◌, ◌<◌, ◌≤◌, ℕ, zero, suc, ◌+◌, ◌-◌, max, Bool, true, false, List, [], ◌∷◌, ◌++◌, length, map, Some, None, refl, sym, ap, subst, ◌∙◌, arith}
-use Rattle.std.specs.Prelude.{Option, ◌↔◌, IsTrue, slice_get, option_map, option_and_then}
+use Rattle.std.proofs.Common.{◌≡◌, ◌<◌, ◌≤◌, ℕ, zero, suc, ◌+◌, ◌-◌, max, Bool, true, false, List, [], ◌∷◌, ◌++◌, length, map, take, Some, None, refl, sym, ap, subst, ◌∙◌, arith}
+use Rattle.std.specs.Prelude.{Option, Result, Ok, Err, OnOk, ◌↔◌, IsTrue, slice_get, option_map, option_and_then}
 use Rattle.std.specs.List.{AllByRecursion}
-use Rattle.std.proofs.lemmas.List.{length-map}
+use Rattle.std.proofs.lemmas.List.{length-append, length-map, take-append-le}
 use Rattle.std.proofs.lemmas.Option.{slice_get-map, slice_get_past}
 use Rattle.core_rules.specs.declared.Flag.{Flag}
 use Rattle.core_rules.specs.Term.{Term, Sort, Pi, App, IsSameTerm}
@@ -66,7 +66,7 @@ module _ {g : Signature ℕ} {ts : List Term} {es : List (Entry ℕ)} (p q : Poo
   level_of-extends : (t : Term) → level_of (signature_in q g) (context_in q es) t ≡ level_of (signature_in p g) (context_in p es) t
   level_of-extends t = ap (option_and_then sort_level) (type_of-extends t)
 
-ready-push : (p : Pool) (g : Signature ℕ) (ts : List Term) (es : List (Entry ℕ)) (x : Entry ℕ) → IsReady p g ts es → x.ty < length p.trees → IsReady p g ts (es ++ x ∷ [])
+pub ready-push : (p : Pool) (g : Signature ℕ) (ts : List Term) (es : List (Entry ℕ)) (x : Entry ℕ) → IsReady p g ts es → x.ty < length p.trees → IsReady p g ts (es ++ x ∷ [])
 ready-push p g ts es x r l = record { signature = r.signature; same = r.same; context = all-push (λ (y : Entry ℕ). y.ty < length p.trees) es x r.context l }
 
 -- ---- contexts
@@ -214,28 +214,76 @@ module _ {p q : Pool} {g : Signature ℕ} {ts : List Term} {es fs : List (Entry 
 
 -- ---- types of functions
 
-module _ {p q : Pool} {g : Signature ℕ} {ts : List Term} {es fs : List (Entry ℕ)} (t dom cod x : ℕ) (b : Flag) (r : IsReady p g ts es) (e : Extends p q) (kept : fs ≡ es)
-    (is : tree p t ≡ Pi b x (tree p dom) (tree p cod)) (d : dom < length p.trees) (l : cod < length p.trees) where
-  under : level_of (signature_in q g) (context_in q (fs ++ (record { name = x; flag = b; ty = dom }) ∷ [])) (tree q cod) ≡ level_of (signature_in p g) (entry b x (tree p dom) ∷ context_in p es) (tree p cod)
-  under =
-      let E : Entry ℕ = record { name = x; flag = b; ty = dom } in
-      ap (λ (hs : List (Entry ℕ)). level_of (signature_in q g) (context_in q (hs ++ E ∷ [])) (tree q cod)) kept
-      ∙ level_of-extends p q e (ready-push p g ts es E r d) (tree q cod)
-      ∙ ap (λ (c : Context Term). level_of (signature_in p g) c (tree q cod)) (context_in-push p es E)
-      ∙ ap (level_of (signature_in p g) (entry b x (tree p dom) ∷ context_in p es)) (Extends-tree cod e l)
+-- what is read of a term of p stays so in a pool that has grown
+pub level-same : {p q : Pool} {g : Signature ℕ} {ts : List Term} {es : List (Entry ℕ)} (r : IsReady p g ts es) (e : Extends p q) (t : ℕ) → t < length p.trees
+    → level_of (signature_in q g) (context_in q es) (tree q t) ≡ level_of (signature_in p g) (context_in p es) (tree p t)
+level-same {p} {q} {g} {ts} {es} r e t l = level_of-extends p q e r (tree q t) ∙ ap (level_of (signature_in p g) (context_in p es)) (Extends-tree t e l)
 
-  pub pi-refused : (m : ℕ) → Some m ≡ level_of (signature_in p g) (context_in p es) (tree p dom)
-      → None ≡ level_of (signature_in q g) (context_in q (fs ++ (record { name = x; flag = b; ty = dom }) ∷ [])) (tree q cod)
-      → type_of (signature_in p g) (context_in p es) (tree p t) ≡ None
-  pi-refused m first second =
-      ap (type_of (signature_in p g) (context_in p es)) is
-      ∙ ap (λ (o : Option ℕ). sort_of_pi o (level_of (signature_in p g) (entry b x (tree p dom) ∷ context_in p es) (tree p cod))) (sym first)
-      ∙ ap (sort_of_pi (Some m)) (sym (second ∙ under))
+-- the type of functions from E to id cod is read as the greatest level so far and the level of id rest in the context es
+abbrev pub IsWalk : Pool → Signature ℕ → List (Entry ℕ) → Entry ℕ → ℕ → List (Entry ℕ) → ℕ → ℕ → Type 0
+IsWalk p g outer E cod es top rest =
+    type_of (signature_in p g) (context_in p outer) (Pi E.flag E.name (tree p E.ty) (tree p cod)) ≡ sort_of_pi (Some top) (level_of (signature_in p g) (context_in p es) (tree p rest))
 
-  pub pi-typed : (m n : ℕ) → Some m ≡ level_of (signature_in p g) (context_in p es) (tree p dom)
-      → Some n ≡ level_of (signature_in q g) (context_in q (fs ++ (record { name = x; flag = b; ty = dom }) ∷ [])) (tree q cod)
-      → Some (Sort (max m n)) ≡ type_of (signature_in p g) (context_in p es) (tree p t)
-  pi-typed m n first second =
-      ap (sort_of_pi (Some m)) (second ∙ under)
-      ∙ ap (λ (o : Option ℕ). sort_of_pi o (level_of (signature_in p g) (entry b x (tree p dom) ∷ context_in p es) (tree p cod))) first
-      ∙ ap (type_of (signature_in p g) (context_in p es)) (sym is)
+-- the sort of a type of functions to a type of functions
+sort-twice : (top m : ℕ) (o : Option ℕ) → sort_of_pi (Some top) (option_and_then sort_level (sort_of_pi (Some m) o)) ≡ sort_of_pi (Some (max top m)) o
+sort-twice top m None = refl
+sort-twice top m (Some n) = let same : max top (max m n) ≡ max (max top m) n = omega arith in ap (λ (k : ℕ). Some (Sort k)) same
+
+pub walk-first : (p : Pool) (g : Signature ℕ) (outer : List (Entry ℕ)) (E : Entry ℕ) (cod m : ℕ) → Some m ≡ level_of (signature_in p g) (context_in p outer) (tree p E.ty) → IsWalk p g outer E cod (outer ++ E ∷ []) m cod
+walk-first p g outer E cod m first =
+    ap (λ (o : Option ℕ). sort_of_pi o (level_of (signature_in p g) (entry E.flag E.name (tree p E.ty) ∷ context_in p outer) (tree p cod))) (sym first)
+    ∙ ap (λ (c : Context Term). sort_of_pi (Some m) (level_of (signature_in p g) c (tree p cod))) (sym (context_in-push p outer E))
+
+pub first-refused : (p : Pool) (g : Signature ℕ) (outer : List (Entry ℕ)) (E : Entry ℕ) (cod : ℕ) → None ≡ level_of (signature_in p g) (context_in p outer) (tree p E.ty)
+    → type_of (signature_in p g) (context_in p outer) (Pi E.flag E.name (tree p E.ty) (tree p cod)) ≡ None
+first-refused p g outer E cod refused = ap (λ (o : Option ℕ). sort_of_pi o (level_of (signature_in p g) (entry E.flag E.name (tree p E.ty) ∷ context_in p outer) (tree p cod))) (sym refused)
+
+module _ {p q : Pool} {g : Signature ℕ} {ts : List Term} {es : List (Entry ℕ)} (outer : List (Entry ℕ)) (E : Entry ℕ) (cod top rest : ℕ) (r : IsReady p g ts es) (e : Extends p q) (w : IsWalk p g outer E cod es top rest) where
+  pub walk-refused : rest < length p.trees → None ≡ level_of (signature_in q g) (context_in q es) (tree q rest)
+      → type_of (signature_in p g) (context_in p outer) (Pi E.flag E.name (tree p E.ty) (tree p cod)) ≡ None
+  walk-refused l refused = w ∙ ap (sort_of_pi (Some top)) (sym (refused ∙ level-same r e rest l))
+
+  pub walk-last : (n : ℕ) → rest < length p.trees → Some n ≡ level_of (signature_in q g) (context_in q es) (tree q rest)
+      → Some (Sort (max top n)) ≡ type_of (signature_in p g) (context_in p outer) (Pi E.flag E.name (tree p E.ty) (tree p cod))
+  walk-last n l last = ap (sort_of_pi (Some top)) (last ∙ level-same r e rest l) ∙ sym w
+
+  -- one codomain more
+  module _ (F : Entry ℕ) (next : ℕ) (l : rest < length p.trees) (d : F.ty < rest) (k : next < rest) (node : tree q rest ≡ Pi F.flag F.name (tree q F.ty) (tree q next)) where
+    within : F.ty < length p.trees
+    within = omega (arith, l, d)
+
+    is : tree p rest ≡ Pi F.flag F.name (tree p F.ty) (tree p next)
+    is =
+        let after : next < length p.trees = omega (arith, l, k) in
+        sym (Extends-tree rest e l) ∙ node
+        ∙ ap (λ (t : Term). Pi F.flag F.name t (tree q next)) (Extends-tree F.ty e within)
+        ∙ ap (λ (t : Term). Pi F.flag F.name (tree p F.ty) t) (Extends-tree next e after)
+
+    pub step-refused : None ≡ level_of (signature_in q g) (context_in q es) (tree q F.ty)
+        → type_of (signature_in p g) (context_in p outer) (Pi E.flag E.name (tree p E.ty) (tree p cod)) ≡ None
+    step-refused refused =
+        w
+        ∙ ap (λ (t : Term). sort_of_pi (Some top) (level_of (signature_in p g) (context_in p es) t)) is
+        ∙ ap (λ (o : Option Term). sort_of_pi (Some top) (option_and_then sort_level o)) (first-refused p g es F next (refused ∙ level-same r e F.ty within))
+
+    pub step-walk : (m : ℕ) → Some m ≡ level_of (signature_in q g) (context_in q es) (tree q F.ty) → IsWalk p g outer E cod (es ++ F ∷ []) (max top m) next
+    step-walk m level =
+        w
+        ∙ ap (λ (t : Term). sort_of_pi (Some top) (level_of (signature_in p g) (context_in p es) t)) is
+        ∙ ap (λ (o : Option Term). sort_of_pi (Some top) (option_and_then sort_level o)) (walk-first p g es F next m (level ∙ level-same r e F.ty within))
+        ∙ sort-twice top m (level_of (signature_in p g) (context_in p (es ++ F ∷ [])) (tree p next))
+
+    pub step-ready : IsReady p g ts (es ++ F ∷ [])
+    step-ready = ready-push p g ts es F r within
+
+-- what stands before an entry that is pushed
+pub outer-push : {A : Type 0} (outer es fs : List A) (x : A) → fs ≡ es ++ x ∷ [] → length outer ≤ length es → take (length outer) es ≡ outer → take (length outer) fs ≡ outer
+outer-push outer es fs x is l e = ap (take (length outer)) is ∙ take-append-le (length outer) es (x ∷ []) l ∙ e
+
+pub longer-push : {A : Type 0} (outer es fs : List A) (x : A) → fs ≡ es ++ x ∷ [] → length outer ≤ length es → length outer ≤ length fs
+longer-push outer es fs x is l = omega (arith, ap length is, length-append es (x ∷ []), l)
+
+-- what is so in any case is so where there is an answer
+pub on-ok : {A B : Type 0} (o : Result A B) (P : Type 0) → P → OnOk o P
+on-ok (Ok x) P p = p
+on-ok (Err x) P p = tt

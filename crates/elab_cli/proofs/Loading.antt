@@ -1,71 +1,48 @@
--- What a text's tokens say of the text.
-use Rattle.std.proofs.Common.{Bool, false, refl, ◌≡◌, ◌≤◌, ℕ, List, [], ◌∷◌, length, None, Some, Ok, Err, sym, ap, subst, arith}
-use Rattle.std.specs.declared.option.Option.{Option}
-use Rattle.std.proofs.lemmas.List.Elements.{recursion_from_All}
-use Rattle.std.specs.Prelude.{is_some}
+-- The stages of the load, put together.
+use Rattle.std.proofs.Common.{◌≡◌, ◌≤◌, ℕ, suc, false, List, [], ◌∷◌, length, Ok, Err, refl, sym, ap, ◌∙◌, arith}
+use Rattle.std.specs.Prelude.{Result, IfOk, nat_lt}
 use Rattle.std.specs.List.{AllByRecursion}
-use Rattle.std.specs.Str.{IsUtf8}
-use Rattle.el_outside.specs.declared.Pos.{Pos}
-use Rattle.agda_lexer.specs.declared.Lexed.{Lexed}
-use Rattle.agda_lexer.specs.declared.LexKind.{LexKind}
-use Rattle.agda_lexer.specs.declared.Token.{Token}
-use Rattle.agda_lexer.specs.Tokens.{Placed, lex_of, cut_of, outcome, tokens_of, remark_of}
-use Rattle.agda_lexer.specs.Laws as laws
-use Rattle.agda_lexer.specs.Laws.{Rise, tokens_up_to_fault}
-use Rattle.agda_lexer.proofs.Walks.{spans_rise, on_borders}
-use Rattle.elab_cli.specs.Borders.{IsOnBorders}
-use Rattle.elab_cli.specs.Form.{Line, IsFile, Reads, limit}
-use Rattle.elab_cli.specs.Judged.{JudgesFile}
-use Rattle.elab_cli.specs.Load.{HasVerdict}
+use Rattle.std.proofs.lemmas.List.{length-map}
+use Rattle.std.proofs.lemmas.Bool.Decides.{nat_tests}
+use Rattle.el_outside.specs.declared.NoMemory.{NoMemory}
+use Rattle.el_outside.specs.Place.{Place}
+use Rattle.core_rules.specs.Signature.{Signature, Postulate, Family, Open, Function, defs}
+use Rattle.core_rules.specs.Mapped.{decl_map}
+use Rattle.core_terms.specs.Pool.{tree}
+use Rattle.source_tree.specs.declared.decl.File.{File}
+use Rattle.elab_cli.specs.declared.state.Core.{Core}
 use Rattle.elab_cli.specs.declared.verdict.Verdict.{Verdict}
-use Rattle.elab_cli.specs.declared.verdict.Verdict.TheVariants.{Unsupported, Refused, Complete}
+use Rattle.elab_cli.specs.declared.verdict.Verdict.TheVariants.{Error, Complete}
+use Rattle.elab_cli.specs.Judged.{Agrees, IsNew, IsPostulate, declared}
+use Rattle.elab_cli.specs.Load.{Declares, HasVerdict, IsInError, Reads, reaches}
+use Rattle.elab_cli.specs.Stages.{FileHasVerdict, HasSignature}
 use Rattle.elab_cli.proofs.Accepted.{signature_derivable}
 
-tokens_in : (ps : List Placed) (fault : Option (Pos × LexKind)) (l : Lexed) → outcome ps fault ≡ Ok l → l.tokens ≡ tokens_of ps
-tokens_in ps None l is = let same : record { tokens = tokens_of ps; comment = remark_of ps } ≡ l = cc in sym (ap (λ (x : Lexed). x.tokens) same)
-tokens_in ps (Some e) l is = cc
+-- the first character that does not begin before the byte, where that is the first
+pub reached : (n : ℕ) (p : Place) (cs : List ℕ) → n ≤ p.at → reaches n p cs ≡ p
+reached n p [] l = refl
+reached n p (c ∷ cs) l = let no : nat_lt p.at n ≡ false = grind (arith, nat_tests) in rw no refl
 
-tokens_are : (text : List ℕ) (l : Lexed) → lex_of text ≡ Ok l → l.tokens ≡ tokens_up_to_fault text
-unfolding lex_of
-tokens_are text l is = tokens_in (cut_of text).pieces (cut_of text).fault l is
+-- what is said of a file is said of its text
+verdict_of : (text : List ℕ) (file : File) (v : Verdict) → Reads text (Ok file) → FileHasVerdict file v → HasVerdict text v
+verdict_of text file (Error e) r h = IsInError.undeclared r h
+verdict_of text file (Complete n) r h = record { file = file; reads = r; signature = h.signature; loads = h.loads; declarations = h.declarations; derivable = signature_derivable file h.signature h.loads }
 
-each_border : (text : List ℕ) (at : ℕ) (ts : List Token) → Rise at ts → AllByRecursion (laws.IsOnBorders text) ts → AllByRecursion (IsOnBorders text) ts
-each_border text at [] r b = tt
-each_border text at (t ∷ ts) r b = (record { ordered = omega (arith, r.1.0); start = b.0.start; end = b.0.end }, each_border text t.span.end ts r.1.1 b.1)
+pub verdicts : (text : List ℕ) (file : File) (o : Result Verdict NoMemory) → Reads text (Ok file) → IfOk o (FileHasVerdict file) → IfOk o (HasVerdict text)
+verdicts text file (Ok v) r h = verdict_of text file v r h
+verdicts text file (Err e) r h = tt
 
-pub borders : (text : List ℕ) (l : Lexed) → IsUtf8 text → lex_of text ≡ Ok l → AllByRecursion (IsOnBorders text) l.tokens
-borders text l utf8 is =
-    subst (AllByRecursion (IsOnBorders text)) (sym (tokens_are text l is))
-    (each_border text 0 (tokens_up_to_fault text) (spans_rise text utf8) (recursion_from_All (laws.IsOnBorders text) (tokens_up_to_fault text) (on_borders text utf8)))
+-- postulates alone have their ids
+all_defs : (g : Signature ℕ) → AllByRecursion IsPostulate g → length (defs g) ≡ length g
+all_defs [] a = refl
+all_defs (Postulate x t ∷ g) a = ap suc (all_defs g a.1)
+all_defs (Family d ∷ g) a = absurd a.0
+all_defs (Open x t ∷ g) a = absurd a.0
+all_defs (Function x t qs T ∷ g) a = absurd a.0
 
-pub no_tokens : (text : List ℕ) (e : Pos × LexKind) (ls : List Line) → lex_of text ≡ Err e → Reads text ls → ⊥
-no_tokens text e ls is r = cc (is, r.lexes)
-
-same_lexed : (text : List ℕ) (l : Lexed) (ls : List Line) → lex_of text ≡ Ok l → (r : Reads text ls) → r.lexed ≡ l
-same_lexed text l ls is r = cc (is, r.lexes)
-
-pub has_comment : (text : List ℕ) (l : Lexed) (p : Pos) (ls : List Line) → lex_of text ≡ Ok l → l.comment ≡ Some p → Reads text ls → ⊥
-has_comment text l p ls is some r = let same = ap (λ (x : Lexed). x.comment) (same_lexed text l ls is r) in cc (same, some, r.plain)
-
-pub no_file : (text : List ℕ) (l : Lexed) → lex_of text ≡ Ok l → ((ls : List Line) → ¬ (IsFile text l.tokens ls)) → (ls : List Line) → Reads text ls → ⊥
-no_file text l is none ls r = none ls (subst (λ (x : Lexed). IsFile text x.tokens ls) (same_lexed text l ls is r) r.file)
-
-pub reads : (text : List ℕ) (l : Lexed) (ls : List Line) → length text ≤ limit → IsUtf8 text → lex_of text ≡ Ok l → l.comment ≡ None → IsFile text l.tokens ls → Reads text ls
-reads text l ls short utf8 is plain file = record { short = short; utf8 = utf8; lexed = l; lexes = is; plain = plain; file = file }
-
-pub none_of : (o : Option Pos) (b : Bool) → b ≡ is_some o → b ≡ false → o ≡ None
-none_of None b e h = refl
-none_of (Some p) b e h = cc (e, h)
-
--- what is said of the tokens is said of the text
-pub verdict_of : (text : List ℕ) (l : Lexed) (v : Verdict) → length text ≤ limit → IsUtf8 text → lex_of text ≡ Ok l → l.comment ≡ None → JudgesFile text l.tokens v → HasVerdict text v
-verdict_of text l Unsupported short utf8 is plain j = no_file text l is j
-verdict_of text l Refused short utf8 is plain j = record { lines = j.lines; reads = reads text l j.lines short utf8 is plain j.are; refuses = j.refuses }
-verdict_of text l (Complete n) short utf8 is plain j = record {
-  lines = j.lines;
-  reads = reads text l j.lines short utf8 is plain j.are;
-  signature = j.signature;
-  loads = j.loads;
-  declarations = j.declarations;
-  derivable = signature_derivable j.lines j.signature j.loads;
+pub has_signature : (file : File) (old new : Core) (n : ℕ) → IsNew old → Declares old.scope (declared old) file.decls (Ok (declared new)) → Agrees new → n ≡ length (defs new.signature) → HasSignature file n
+has_signature file old new n is h a count = record {
+  signature = declared new;
+  loads = rw is.scope at (rw is.signature at h);
+  declarations = count ∙ all_defs new.signature a.postulates ∙ sym (length-map new.signature (decl_map (tree new.pool)));
 }

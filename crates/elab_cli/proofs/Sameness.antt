@@ -20,7 +20,7 @@ use Rattle.elab_cli.specs.declared.same.Shape.{Shape}
 use Rattle.elab_cli.specs.declared.same.Shape.TheVariants as S
 use Rattle.elab_cli.specs.contracts.same.ShapePartialEq.TheImpl.{eq-value}
 use Rattle.elab_cli.specs.Same.{IsOf, is_implicit, flag_of, shape_of, shape_term, HasParts, terms_after, class_terms, AreApart, Grows, terms_of, AreClasses}
-use Rattle.elab_cli.proofs.Places.{map-push}
+use Rattle.elab_cli.proofs.Firsts.{map-push}
 
 -- ---- by the kinds of nodes
 

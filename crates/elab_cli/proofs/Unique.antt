@@ -1,158 +1,210 @@
--- A text is read in one way.
-use Rattle.std.proofs.Common.{◌≡◌, ℕ, length, true, false, List, [], ◌∷◌, ◌++◌, None, refl, sym, ap, subst, ◌∙◌, arith}
-use Rattle.std.specs.List.{AllByRecursion}
+-- One thing at most is said of a text.
+use Rattle.std.proofs.Common.{◌≡◌, ◌≢◌, ◌<◌, ℕ, List, length, take, Some, None, Ok, Err, refl, sym, ap, subst, ◌∙◌, arith}
+use Rattle.std.specs.Prelude.{Result}
+use Rattle.std.specs.Str.{IsUtf8, IsValidUpTo}
+use Rattle.std.proofs.lemmas.List.{take_all}
+use Rattle.el_outside.specs.declared.Pos.{Pos}
+use Rattle.el_outside.specs.Place.{pos_of}
 use Rattle.agda_lexer.specs.declared.Lexed.{Lexed}
-use Rattle.agda_lexer.specs.declared.Token.{Token}
-use Rattle.elab_cli.specs.Words.{Word, NameWord, ColonWord, ArrowWord, OpenWord, CloseWord, Written, Atom, Atoms, Applied, Arrow, Bound, Name, Set, Paren, NoAtom, AndAtom, written_then, atom_then, atoms_then}
+use Rattle.agda_lexer.specs.declared.LexKind.{LexKind}
+use Rattle.agda_lexer.specs.Tokens.{lex_of}
+use Rattle.agda_layout.specs.declared.laid.Laid.{Laid}
+use Rattle.agda_layout.specs.Blocks.{laid}
+use Rattle.agda_parser.specs.declared.error.ParseKind.{ParseKind}
+use Rattle.agda_parser.specs.declared.error.ParseError.{ParseError}
+use Rattle.agda_parser.specs.declared.error.ParseError.TheVariants.{Bad, NoMemory}
+use Rattle.agda_parser.specs.Declarations.{file_then, file_tree}
+use Rattle.agda_parser.specs.Reading.{Settles}
+use Rattle.agda_parser.specs.Tokens.{laid_signs}
+use Rattle.agda_parser.proofs.OneAnswer.{one_answer as parsed_as}
+use Rattle.source_tree.specs.declared.decl.Decl.{Decl}
+use Rattle.source_tree.specs.declared.decl.File.{File}
+use Rattle.scope_check.specs.declared.resolved.Resolved.{Resolved}
+use Rattle.scope_check.specs.Answers.{Checked}
+use Rattle.scope_check.specs.Known.{Known}
+use Rattle.scope_check.proofs.DeclCases.{one_answer as resolved_once}
 use Rattle.core_rules.specs.Term.{Term}
 use Rattle.core_rules.specs.Signature.{Signature}
+use Rattle.elab_cli.specs.declared.error.LoadError.{LoadError}
+use Rattle.elab_cli.specs.declared.error.LoadKind.TheVariants as kind
 use Rattle.elab_cli.specs.declared.verdict.Verdict.{Verdict}
-use Rattle.elab_cli.specs.declared.verdict.Verdict.TheVariants.{Unsupported, Refused, Complete}
-use Rattle.elab_cli.specs.Load.{HasVerdict, IsRefused, IsComplete}
-use Rattle.elab_cli.specs.Declarations.{NotOn}
-use Rattle.elab_cli.specs.Form.{Line, IsLine, AreLines, IsFile, Reads}
-use Rattle.elab_cli.specs.Elaborate.{begins_atom, binder_of}
-use Rattle.elab_cli.proofs.Elaborated.{Stops, stops_atoms, atom_begins, no_binder}
+use Rattle.elab_cli.specs.declared.verdict.Verdict.TheVariants.{Error, Complete}
+use Rattle.elab_cli.specs.Unbuilt.{in_file}
+use Rattle.elab_cli.specs.Accept.{with_decl}
+use Rattle.elab_cli.specs.Load.{Declares, DeclaresFile, HasVerdict, IsComplete, IsInError, IsLexed, IsParsed, Reads, error_at, lex_kind, parse_kind, place_of_byte}
 
--- ---- types
+-- ---- the stages
 
--- an application is no variable with its type
-no_bound : (a : Atom) (us : List Word) (x : List ℕ) (vs : List Word) → atom_then a us ≡ OpenWord ∷ NameWord x ∷ ColonWord ∷ vs → ⊥
-no_bound a us x vs e = let none : binder_of (OpenWord ∷ NameWord x ∷ ColonWord ∷ vs) ≡ None = ap binder_of (sym e) ∙ no_binder a us in cc (none)
+-- a text that is not UTF-8 is valid up to one byte
+valid_once : (bs : List ℕ) (n m : ℕ) → IsValidUpTo bs n → IsValidUpTo bs m → n ≡ m
+valid_once bs n m v w = by_order (v.longest m) (w.longest n)
+  where
+    by_order : (n < m → ¬ (IsUtf8 (take m bs))) → (m < n → ¬ (IsUtf8 (take n bs))) → n ≡ m
+    by_order a b = grind (arith, no_less, no_more)
+      where
+        no_less : ¬ (n < m)
+        no_less l = a l w.front
 
-no_more : (a : Atom) (us vs : List Word) → begins_atom vs ≡ false → vs ≡ atom_then a us → ⊥
-no_more a us vs none e = let begins : begins_atom vs ≡ true = ap begins_atom e ∙ atom_begins a us in cc (none, begins)
+        no_more : ¬ (m < n)
+        no_more l = b l v.front
 
-no_arrow : (vs ws : List Word) → Stops vs → vs ≡ ArrowWord ∷ ws → ⊥
-no_arrow vs ws s e = subst Stops e s
+not_valid : (bs : List ℕ) (n : ℕ) → IsUtf8 bs → IsValidUpTo bs n → ⊥
+not_valid bs n u v = v.longest (length bs) v.short (subst IsUtf8 (sym (take_all (length bs) bs (omega arith))) u)
 
--- the same words spell the same type, with the same words behind it
-mutual
-  one_written : (d e : Written) (vs ws : List Word) → Stops vs → Stops ws → written_then d vs ≡ written_then e ws → (d ≡ e) × (vs ≡ ws)
-  one_written (Applied a m) (Applied b n) vs ws s t e =
-      let p = one_atom a b (atoms_then m vs) (atoms_then n ws) e in
-      let q = one_atoms m n vs ws (stops_atoms vs s) (stops_atoms ws t) p.1 in
-      (cc (p.0, q.0), q.1)
-  one_written (Applied a m) (Arrow b n c) vs ws s t e =
-      let p = one_atom a b (atoms_then m vs) (atoms_then n (ArrowWord ∷ written_then c ws)) e in
-      let q = one_atoms m n vs (ArrowWord ∷ written_then c ws) (stops_atoms vs s) refl p.1 in
-      absurd (no_arrow vs (written_then c ws) s q.1)
-  one_written (Arrow a m c) (Applied b n) vs ws s t e =
-      let p = one_atom a b (atoms_then m (ArrowWord ∷ written_then c vs)) (atoms_then n ws) e in
-      let q = one_atoms m n (ArrowWord ∷ written_then c vs) ws refl (stops_atoms ws t) p.1 in
-      absurd (no_arrow ws (written_then c vs) t (sym q.1))
-  one_written (Arrow a m c) (Arrow b n d) vs ws s t e =
-      let p = one_atom a b (atoms_then m (ArrowWord ∷ written_then c vs)) (atoms_then n (ArrowWord ∷ written_then d ws)) e in
-      let q = one_atoms m n (ArrowWord ∷ written_then c vs) (ArrowWord ∷ written_then d ws) refl refl p.1 in
-      let r = one_written c d vs ws s t (cc (q.1)) in
-      (cc (p.0, q.0, r.0), r.1)
-  one_written (Bound x a b) (Bound y c d) vs ws s t e =
-      let p = one_written a c (CloseWord ∷ ArrowWord ∷ written_then b vs) (CloseWord ∷ ArrowWord ∷ written_then d ws) tt tt (cc) in
-      let q = one_written b d vs ws s t (cc (p.1)) in
-      let name : x ≡ y = cc in
-      (cc (name, p.0, q.0), q.1)
-  one_written (Bound x a b) (Applied c n) vs ws s t e = absurd (no_bound c (atoms_then n ws) x (written_then a (CloseWord ∷ ArrowWord ∷ written_then b vs)) (sym e))
-  one_written (Bound x a b) (Arrow c n d) vs ws s t e =
-      absurd (no_bound c (atoms_then n (ArrowWord ∷ written_then d ws)) x (written_then a (CloseWord ∷ ArrowWord ∷ written_then b vs)) (sym e))
-  one_written (Applied a m) (Bound y c d) vs ws s t e = absurd (no_bound a (atoms_then m vs) y (written_then c (CloseWord ∷ ArrowWord ∷ written_then d ws)) e)
-  one_written (Arrow a m b) (Bound y c d) vs ws s t e =
-      absurd (no_bound a (atoms_then m (ArrowWord ∷ written_then b vs)) y (written_then c (CloseWord ∷ ArrowWord ∷ written_then d ws)) e)
+lexed_once : {text : List ℕ} {l m : Lexed} → IsLexed text l → IsLexed text m → l ≡ m
+lexed_once a b = let at_first = a.tokens in let at_second = b.tokens in cc
 
-  one_atom : (a b : Atom) (vs ws : List Word) → atom_then a vs ≡ atom_then b ws → (a ≡ b) × (vs ≡ ws)
-  one_atom (Name x) (Name y) vs ws e = (cc, cc)
-  one_atom Set Set vs ws e = (refl, cc)
-  one_atom (Paren a) (Paren b) vs ws e =
-      let p = one_written a b (CloseWord ∷ vs) (CloseWord ∷ ws) tt tt (cc) in
-      (cc (p.0), cc (p.1))
-  one_atom (Name x) Set vs ws e = cc
-  one_atom (Name x) (Paren b) vs ws e = cc
-  one_atom Set (Name y) vs ws e = cc
-  one_atom Set (Paren b) vs ws e = cc
-  one_atom (Paren a) (Name y) vs ws e = cc
-  one_atom (Paren a) Set vs ws e = cc
+-- the parser has one answer
+parsed_once : {text : List ℕ} {a b : Result File ParseError} → a ≢ Err NoMemory → b ≢ Err NoMemory → IsParsed text a → IsParsed text b → a ≡ b
+parsed_once {text = text} {a = a} {b = b} na nb p q =
+    let tokens : p.lexed ≡ q.lexed = lexed_once p.lexes q.lexes in
+    let lays : laid p.lexed.tokens ≡ Ok q.signs = subst (λ (l : Lexed). laid l.tokens ≡ Ok q.signs) (sym tokens) q.lays in
+    let signs : p.signs ≡ q.signs = let first = p.lays in cc in
+    let moved : Settles file_then (file_tree text) text (laid_signs p.lexed.tokens q.signs) b = subst (λ (l : Lexed). Settles file_then (file_tree text) text (laid_signs l.tokens q.signs) b) (sym tokens) q.parses in
+    parsed_as file_then text (laid_signs p.lexed.tokens p.signs) (file_tree text) a b na nb p.parses
+    (subst (λ (s : List Laid). Settles file_then (file_tree text) text (laid_signs p.lexed.tokens s) b) (sym signs) moved)
 
-  one_atoms : (m n : Atoms) (vs ws : List Word) → begins_atom vs ≡ false → begins_atom ws ≡ false → atoms_then m vs ≡ atoms_then n ws → (m ≡ n) × (vs ≡ ws)
-  one_atoms NoAtom NoAtom vs ws s t e = (refl, e)
-  one_atoms NoAtom (AndAtom b n) vs ws s t e = absurd (no_more b (atoms_then n ws) vs s e)
-  one_atoms (AndAtom a m) NoAtom vs ws s t e = absurd (no_more a (atoms_then m vs) ws t (sym e))
-  one_atoms (AndAtom a m) (AndAtom b n) vs ws s t e =
-      let p = one_atom a b (atoms_then m vs) (atoms_then n ws) e in
-      let q = one_atoms m n vs ws s t p.1 in
-      (cc (p.0, q.0), q.1)
+files_once : {text : List ℕ} {f g : File} → IsParsed text (Ok f) → IsParsed text (Ok g) → f ≡ g
+files_once p q = let one = parsed_once (λ e. absurd cc) (λ e. absurd cc) p q in cc
 
-pub one_type : (d e : Written) → written_then d [] ≡ written_then e [] → d ≡ e
-one_type d e h = (one_written d e [] [] tt tt h).0
+abbrev failed : LoadError → Result File LoadError
+failed e = Err e
 
--- ---- declarations
+token_once : (text : List ℕ) {p q : Pos} {j k : LexKind} → lex_of text ≡ Err (p, j) → lex_of text ≡ Err (q, k) → failed (error_at p (lex_kind j)) ≡ failed (error_at q (lex_kind k))
+token_once text {p = p} {q = q} {j = j} {k = k} e d =
+    let pair : (p, j) ≡ (q, k) = cc in
+    ap (λ (t : Pos × LexKind). failed (error_at t.0 (lex_kind t.1))) pair
 
-pub one_line : {text : List ℕ} {a : Token} {ts : List Token} (k l : Line) → IsLine text a ts k → IsLine text a ts l → k ≡ l
-one_line k l p q =
-    let words : NameWord k.name ∷ ColonWord ∷ written_then k.ty [] ≡ NameWord l.name ∷ ColonWord ∷ written_then l.ty [] = sym p.words ∙ q.words in
-    let name : k.name ≡ l.name = cc (words) in
-    let line : List ℕ → Written → Line = λ x w. record { name = x; ty = w } in
-    ap (λ (x : List ℕ). line x k.ty) name ∙ ap (line l.name) (one_type k.ty l.ty (cc (words)))
+unbuilt_once : (text : List ℕ) {f g : File} {n m : ℕ} → f ≡ g → in_file f ≡ Some n → in_file g ≡ Some m → failed (error_at (place_of_byte text n) kind.Unsupported) ≡ failed (error_at (place_of_byte text m) kind.Unsupported)
+unbuilt_once text same e d = cc
+
+module _ {text : List ℕ} where
+  not_lexed : {p : Pos} {k : LexKind} {l : Lexed} → lex_of text ≡ Err (p, k) → IsLexed text l → ⊥
+  not_lexed e l = let tokens = l.tokens in absurd cc
+
+  outside_once : {p q : Pos} {l m : Lexed} → IsLexed text l → laid l.tokens ≡ Err p → IsLexed text m → laid m.tokens ≡ Err q → failed (error_at p kind.Layout) ≡ failed (error_at q kind.Layout)
+  outside_once l e m f = let same = lexed_once l m in cc
+
+  not_laid : {p : Pos} {l : Lexed} {answer : Result File ParseError} → IsLexed text l → laid l.tokens ≡ Err p → IsParsed text answer → ⊥
+  not_laid l e q = let same = lexed_once l q.lexes in let lays = q.lays in absurd cc
+
+  refused_once : {p q : Pos} {j k : ParseKind} → IsParsed text (Err (Bad p j)) → IsParsed text (Err (Bad q k)) → failed (error_at p (parse_kind j)) ≡ failed (error_at q (parse_kind k))
+  refused_once a b = let one = parsed_once (λ e. absurd cc) (λ e. absurd cc) a b in cc
+
+  not_parsed : {p : Pos} {k : ParseKind} {file : File} → IsParsed text (Err (Bad p k)) → IsParsed text (Ok file) → ⊥
+  not_parsed a b = let one = parsed_once (λ e. absurd cc) (λ e. absurd cc) a b in absurd cc
+
+  not_built : {f g : File} {n : ℕ} → IsParsed text (Ok f) → in_file f ≡ Some n → IsParsed text (Ok g) → in_file g ≡ None → ⊥
+  not_built p e q d = let same = files_once p q in absurd cc
+
+  -- the constructors of Reads exclude each other, and each has one result
+  reads_once : {a b : Result File LoadError} → Reads text a → Reads text b → a ≡ b
+  reads_once (Reads.too_long h) (Reads.too_long h1) = refl
+  reads_once (Reads.too_long h) (Reads.not_utf8 s1 v1) = absurd (omega (arith, h, s1))
+  reads_once (Reads.too_long h) (Reads.no_token s1 u1 e1) = absurd (omega (arith, h, s1))
+  reads_once (Reads.too_long h) (Reads.outside l1 e1) = absurd (omega (arith, h, l1.short))
+  reads_once (Reads.too_long h) (Reads.no_file p1) = absurd (omega (arith, h, p1.lexes.short))
+  reads_once (Reads.too_long h) (Reads.unbuilt p1 e1) = absurd (omega (arith, h, p1.lexes.short))
+  reads_once (Reads.too_long h) (Reads.built p1 e1) = absurd (omega (arith, h, p1.lexes.short))
+  reads_once (Reads.not_utf8 s v) (Reads.too_long h1) = absurd (omega (arith, h1, s))
+  reads_once (Reads.not_utf8 s v) (Reads.not_utf8 s1 v1) = ap (λ n. Err (error_at (pos_of text n) kind.NotUtf8)) (valid_once text _ _ v v1)
+  reads_once (Reads.not_utf8 s v) (Reads.no_token s1 u1 e1) = absurd (not_valid text _ u1 v)
+  reads_once (Reads.not_utf8 s v) (Reads.outside l1 e1) = absurd (not_valid text _ l1.utf8 v)
+  reads_once (Reads.not_utf8 s v) (Reads.no_file p1) = absurd (not_valid text _ p1.lexes.utf8 v)
+  reads_once (Reads.not_utf8 s v) (Reads.unbuilt p1 e1) = absurd (not_valid text _ p1.lexes.utf8 v)
+  reads_once (Reads.not_utf8 s v) (Reads.built p1 e1) = absurd (not_valid text _ p1.lexes.utf8 v)
+  reads_once (Reads.no_token s u e) (Reads.too_long h1) = absurd (omega (arith, h1, s))
+  reads_once (Reads.no_token s u e) (Reads.not_utf8 s1 v1) = absurd (not_valid text _ u v1)
+  reads_once (Reads.no_token s u e) (Reads.no_token s1 u1 e1) = token_once text e e1
+  reads_once (Reads.no_token s u e) (Reads.outside l1 e1) = absurd (not_lexed e l1)
+  reads_once (Reads.no_token s u e) (Reads.no_file p1) = absurd (not_lexed e p1.lexes)
+  reads_once (Reads.no_token s u e) (Reads.unbuilt p1 e1) = absurd (not_lexed e p1.lexes)
+  reads_once (Reads.no_token s u e) (Reads.built p1 e1) = absurd (not_lexed e p1.lexes)
+  reads_once (Reads.outside l e) (Reads.too_long h1) = absurd (omega (arith, h1, l.short))
+  reads_once (Reads.outside l e) (Reads.not_utf8 s1 v1) = absurd (not_valid text _ l.utf8 v1)
+  reads_once (Reads.outside l e) (Reads.no_token s1 u1 e1) = absurd (not_lexed e1 l)
+  reads_once (Reads.outside l e) (Reads.outside l1 e1) = outside_once l e l1 e1
+  reads_once (Reads.outside l e) (Reads.no_file p1) = absurd (not_laid l e p1)
+  reads_once (Reads.outside l e) (Reads.unbuilt p1 e1) = absurd (not_laid l e p1)
+  reads_once (Reads.outside l e) (Reads.built p1 e1) = absurd (not_laid l e p1)
+  reads_once (Reads.no_file p) (Reads.too_long h1) = absurd (omega (arith, h1, p.lexes.short))
+  reads_once (Reads.no_file p) (Reads.not_utf8 s1 v1) = absurd (not_valid text _ p.lexes.utf8 v1)
+  reads_once (Reads.no_file p) (Reads.no_token s1 u1 e1) = absurd (not_lexed e1 p.lexes)
+  reads_once (Reads.no_file p) (Reads.outside l1 e1) = absurd (not_laid l1 e1 p)
+  reads_once (Reads.no_file p) (Reads.no_file p1) = refused_once p p1
+  reads_once (Reads.no_file p) (Reads.unbuilt p1 e1) = absurd (not_parsed p p1)
+  reads_once (Reads.no_file p) (Reads.built p1 e1) = absurd (not_parsed p p1)
+  reads_once (Reads.unbuilt p e) (Reads.too_long h1) = absurd (omega (arith, h1, p.lexes.short))
+  reads_once (Reads.unbuilt p e) (Reads.not_utf8 s1 v1) = absurd (not_valid text _ p.lexes.utf8 v1)
+  reads_once (Reads.unbuilt p e) (Reads.no_token s1 u1 e1) = absurd (not_lexed e1 p.lexes)
+  reads_once (Reads.unbuilt p e) (Reads.outside l1 e1) = absurd (not_laid l1 e1 p)
+  reads_once (Reads.unbuilt p e) (Reads.no_file p1) = absurd (not_parsed p1 p)
+  reads_once (Reads.unbuilt p e) (Reads.unbuilt p1 e1) = let file = files_once p p1 in let first = e in let second = e1 in unbuilt_once text file first second
+  reads_once (Reads.unbuilt p e) (Reads.built p1 e1) = absurd (not_built p e p1 e1)
+  reads_once (Reads.built p e) (Reads.too_long h1) = absurd (omega (arith, h1, p.lexes.short))
+  reads_once (Reads.built p e) (Reads.not_utf8 s1 v1) = absurd (not_valid text _ p.lexes.utf8 v1)
+  reads_once (Reads.built p e) (Reads.no_token s1 u1 e1) = absurd (not_lexed e1 p.lexes)
+  reads_once (Reads.built p e) (Reads.outside l1 e1) = absurd (not_laid l1 e1 p)
+  reads_once (Reads.built p e) (Reads.no_file p1) = absurd (not_parsed p1 p)
+  reads_once (Reads.built p e) (Reads.unbuilt p1 e1) = absurd (not_built p1 e1 p e)
+  reads_once (Reads.built p e) (Reads.built p1 e1) = ap Ok (files_once p p1)
+
+-- ---- the declarations
+
+abbrev resolves_to : Resolved → Known → Checked (Resolved × Known)
+resolves_to r m = Ok (r, m)
+
+-- the trees and what is known, of two equal answers
+pair_once : {m n : Known} {r q : Resolved} → resolves_to r m ≡ resolves_to q n → (r ≡ q) × (m ≡ n)
+pair_once {m = m} {n = n} {r = r} {q = q} e = let pair : (r, m) ≡ (q, n) = cc in (ap (λ (t : Resolved × Known). t.0) pair, ap (λ (t : Resolved × Known). t.1) pair)
+
+not_declared : (g : Signature Term) {h : Signature Term} {r q : Resolved} → r ≡ q → with_decl g r ≡ None → with_decl g q ≡ Some h → ⊥
+not_declared g {h = h} same n s = let both : None ≡ Some h = sym n ∙ ap (with_decl g) same ∙ s in absurd cc
+
+signature_once : (g : Signature Term) {h i : Signature Term} {r q : Resolved} → r ≡ q → with_decl g r ≡ Some h → with_decl g q ≡ Some i → h ≡ i
+signature_once g {h = h} {i = i} same s t = let both : Some h ≡ Some i = sym s ∙ ap (with_decl g) same ∙ t in cc
+
+declares_once : {k : Known} {g : Signature Term} {ds : List Decl} {a b : Result (Signature Term) LoadError} → Declares k g ds a → Declares k g ds b → a ≡ b
+declares_once Declares.none Declares.none = refl
+declares_once (Declares.unresolved {k = k} {d = d} e) (Declares.unresolved f) = let one = resolved_once k d _ _ e f in cc
+declares_once (Declares.unresolved {k = k} {d = d} e) (Declares.refused f r) = let one = resolved_once k d _ _ e f in absurd cc
+declares_once (Declares.unresolved {k = k} {d = d} e) (Declares.declared f r more) = let one = resolved_once k d _ _ e f in absurd cc
+declares_once (Declares.refused {k = k} {d = d} e r) (Declares.unresolved f) = let one = resolved_once k d _ _ e f in absurd cc
+declares_once (Declares.refused e r) (Declares.refused f s) = refl
+declares_once (Declares.refused {k = k} {g = g} {d = d} e r) (Declares.declared f s more) = absurd (not_declared g (pair_once (resolved_once k d _ _ e f)).0 r s)
+declares_once (Declares.declared {k = k} {d = d} e r more) (Declares.unresolved f) = let one = resolved_once k d _ _ e f in absurd cc
+declares_once (Declares.declared {k = k} {g = g} {d = d} e r more) (Declares.refused f s) = absurd (not_declared g (pair_once (resolved_once k d _ _ f e)).0 s r)
+declares_once (Declares.declared {k = k} {g = g} {h = h} {d = d} {ds = ds} e r more) (Declares.declared {m = m} {result = b} f s more1) =
+    let same = pair_once (resolved_once k d _ _ e f) in
+    declares_once more (subst (λ (l : Known). Declares l h ds b) (sym same.1) (subst (λ (i : Signature Term). Declares m i ds b) (sym (signature_once g same.0 r s)) more1))
+
+-- ---- the verdict
 
 module _ (text : List ℕ) where
-  pub later : {n : ℕ} {ts : List Token} {ls : List Line} → AreLines text n ts ls → NotOn n ts
-  later AreLines.none = tt
-  later {n} (AreLines.line a ts rest is l line are) = subst (NotOn n) (sym is) (λ e. omega (arith, l, e))
+  file_once : {f g : File} → Reads text (Ok f) → Reads text (Ok g) → f ≡ g
+  file_once r s = let one = reads_once r s in cc
 
-  -- tokens on line n, and others behind it
-  pub one_split : (n : ℕ) (ts us rest more : List Token) → AllByRecursion (λ t. t.pos.line ≡ n) ts → AllByRecursion (λ t. t.pos.line ≡ n) us → NotOn n rest → NotOn n more → ts ++ rest ≡ us ++ more
-      → (ts ≡ us) × (rest ≡ more)
-  one_split n [] [] rest more h k p q e = (refl, e)
-  one_split n [] (u ∷ us) rest more h k p q e = let other : ¬ (u.pos.line ≡ n) = subst (NotOn n) e p in absurd (other k.0)
-  one_split n (t ∷ ts) [] rest more h k p q e = let other : ¬ (t.pos.line ≡ n) = subst (NotOn n) (sym e) q in absurd (other h.0)
-  one_split n (t ∷ ts) (u ∷ us) rest more h k p q e =
-      let r = one_split n ts us rest more h.1 k.1 p q (cc) in
-      let first : t ≡ u = cc in
-      (cc (first, r.0), r.1)
+  loads_once : {f g : File} {a b : Result (Signature Term) LoadError} → Reads text (Ok f) → DeclaresFile f a → Reads text (Ok g) → DeclaresFile g b → a ≡ b
+  loads_once {b = b} r d s c = declares_once d (subst (λ (h : File). DeclaresFile h b) (sym (file_once r s)) c)
 
-  pub same_lines : (n : ℕ) (all : List Token) (ks ls : List Line) → AreLines text n all ks → AreLines text n all ls → ks ≡ ls
-  same_lines n all ks ls AreLines.none AreLines.none = refl
-  same_lines n all ks ls AreLines.none (AreLines.line b us more js m line those) = cc
-  same_lines n all ks ls (AreLines.line a ts rest is l line are) AreLines.none = cc
-  same_lines n all ks ls (AreLines.line a ts rest is m line are) (AreLines.line b us more {l = l} {ls = more_lines} js o also those) =
-      let first : b ≡ a = cc (is, js) in
-      let tail : ts ++ rest ≡ us ++ more = cc (is, js) in
-      let also_at : IsLine text a us l = subst (λ (t : Token). IsLine text t us l) first also in
-      let those_at : AreLines text a.pos.line more more_lines = subst (λ (t : Token). AreLines text t.pos.line more more_lines) first those in
-      let s = one_split a.pos.line ts us rest more line.on_line also_at.on_line (later are) (later those_at) tail in
-      cc (
-        one_line _ l line (subst (λ us. IsLine text a us l) (sym s.0) also_at),
-        same_lines a.pos.line rest _ more_lines are (subst (λ r. AreLines text a.pos.line r more_lines) (sym s.1) those_at),
-      )
+  errors_once : {e f : LoadError} → IsInError text e → IsInError text f → e ≡ f
+  errors_once (IsInError.unread r) (IsInError.unread s) = let one = reads_once r s in cc
+  errors_once (IsInError.unread r) (IsInError.undeclared s d) = let one = reads_once r s in absurd cc
+  errors_once (IsInError.undeclared r d) (IsInError.unread s) = let one = reads_once r s in absurd cc
+  errors_once (IsInError.undeclared r d) (IsInError.undeclared s c) = let one = loads_once r d s c in cc
 
-pub same_files : (text : List ℕ) (ts : List Token) (ks ls : List Line) → IsFile text ts ks → IsFile text ts ls → ks ≡ ls
-same_files text ts ks ls f h =
-    let same : h.rest ≡ f.rest = cc (f.all, h.all) in
-    same_lines text 1 f.rest ks ls f.lines (subst (λ r. AreLines text 1 r ls) same h.lines)
+  not_both : {e : LoadError} {n : ℕ} → IsInError text e → IsComplete text n → ⊥
+  not_both (IsInError.unread r) b = let one = reads_once r b.reads in absurd cc
+  not_both (IsInError.undeclared r d) b = let one = loads_once r d b.reads b.loads in absurd cc
 
-pub one_reading : (text : List ℕ) (ks ls : List Line) → Reads text ks → Reads text ls → ks ≡ ls
-one_reading text ks ls r s =
-    let same : r.lexed ≡ s.lexed = cc (r.lexes, s.lexes) in
-    same_files text s.lexed.tokens ks ls (subst (λ (x : Lexed). IsFile text x.tokens ks) same r.file) s.file
-
--- ---- what is said of a text
-
-refused_complete : (text : List ℕ) (n : ℕ) → IsRefused text → IsComplete text n → ⊥
-refused_complete text n r c =
-    let same : r.lines ≡ c.lines = one_reading text r.lines c.lines r.reads c.reads in
-    cc (same, r.refuses, c.loads)
-
-same_counts : (text : List ℕ) (m n : ℕ) → IsComplete text m → IsComplete text n → m ≡ n
-same_counts text m n c d =
-    let same : c.lines ≡ d.lines = one_reading text c.lines d.lines c.reads d.reads in
-    let one : c.signature ≡ d.signature = cc (same, c.loads, d.loads) in
-    c.declarations ∙ ap (λ (g : Signature Term). length g) one ∙ sym d.declarations
+  signatures_once : {n m : ℕ} → IsComplete text n → IsComplete text m → n ≡ m
+  signatures_once a b =
+      let one = loads_once a.reads a.loads b.reads b.loads in
+      let same : a.signature ≡ b.signature = cc in
+      a.declarations ∙ ap length same ∙ sym b.declarations
 
 pub one_verdict : (text : List ℕ) (v w : Verdict) → HasVerdict text v → HasVerdict text w → v ≡ w
-one_verdict text Unsupported Unsupported p q = refl
-one_verdict text Unsupported Refused p q = absurd (p q.lines q.reads)
-one_verdict text Unsupported (Complete n) p q = absurd (p q.lines q.reads)
-one_verdict text Refused Unsupported p q = absurd (q p.lines p.reads)
-one_verdict text Refused Refused p q = refl
-one_verdict text Refused (Complete n) p q = absurd (refused_complete text n p q)
-one_verdict text (Complete m) Unsupported p q = absurd (q p.lines p.reads)
-one_verdict text (Complete m) Refused p q = absurd (refused_complete text m q p)
-one_verdict text (Complete m) (Complete n) p q = ap Complete (same_counts text m n p q)
+one_verdict text (Error e) (Error f) a b = ap Error (errors_once text a b)
+one_verdict text (Error e) (Complete n) a b = absurd (not_both text a b)
+one_verdict text (Complete n) (Error e) a b = absurd (not_both text b a)
+one_verdict text (Complete n) (Complete m) a b = ap Complete (signatures_once text a b)

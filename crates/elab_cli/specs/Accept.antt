@@ -1,63 +1,18 @@
--- The signature that the load makes of declarations: names are resolved, and each type is judged over the declarations before it.
-use Rattle.std.specs.Prelude.{ℕ, ◌+◌, max, ◌&&◌, List, [], ◌∷◌, ◌++◌, Option, Some, None, option_map, option_and_then, if◌then◌else◌, is_some, slice_get}
-use Rattle.std.specs.Str.{bytes_eq}
-use Rattle.std.specs.List.{position_from}
+-- The kernel's reading of a type, with `the same term` in place of conversion, and the signature that it makes of declarations.
+use Rattle.std.specs.Prelude.{ℕ, ◌+◌, max, ◌&&◌, List, [], ◌∷◌, ◌++◌, map, Option, Some, None, option_map, option_and_then, if◌then◌else◌, is_some, slice_get}
 use Rattle.core_rules.specs.declared.Flag.{Flag}
-use Rattle.core_rules.specs.declared.Flag.TheVariants.{Explicit}
 use Rattle.core_rules.specs.Term.{Term, Var, Sort, Pi, Lam, App, Def, Fam, Con, Proj, Meta}
 use Rattle.core_rules.specs.Substitution.{shift, subst}
 use Rattle.core_rules.specs.Signature.{Context, Signature, Postulate, def_type}
 use Rattle.core_rules.specs.Typing.{entry}
-use Rattle.elab_cli.specs.Words.{Written, Atom, Atoms, Applied, Arrow, Bound, Name, Set, Paren, NoAtom, AndAtom, binders, atom_binders, atoms_binders}
-use Rattle.elab_cli.specs.Form.{Line}
+use Rattle.scope_check.specs.declared.resolved.ResolvedName.{ResolvedName}
+use Rattle.scope_check.specs.declared.resolved.ResolvedSignature.{ResolvedSignature}
+use Rattle.scope_check.specs.declared.resolved.Resolved.{Resolved}
+use Rattle.scope_check.specs.declared.resolved.Resolved.TheVariants as r
 use Rattle.elab_cli.specs.Equal.{same_flag, same_term}
+use Rattle.elab_cli.specs.Translated.{term_of}
 
--- ---- names
-
--- the first place of a name in a list of names
-abbrev pub place_of : List (List ℕ) → List ℕ → Option ℕ
-place_of ns x = position_from (bytes_eq x) 0 ns
-
--- a name under the binders bs, innermost first, over the declared names ns: the innermost variable of the name, else what is declared
-abbrev pub named_by : Option ℕ → Option ℕ → Option Term
-named_by (Some i) o = Some (Var i)
-named_by None o = option_map Def o
-
-abbrev pub named : List (List ℕ) → List (List ℕ) → List ℕ → Option Term
-named ns bs x = named_by (place_of bs x) (place_of ns x)
-
--- ---- terms of types
-
-abbrev pub pi_of : ℕ → Option Term → Option Term → Option Term
-pi_of x (Some a) (Some b) = Some (Pi Explicit x a b)
-pi_of x (Some a) None = None
-pi_of x None b = None
-
-abbrev pub app_of : Option Term → Option Term → Option Term
-app_of (Some t) (Some u) = Some (App Explicit t u)
-app_of (Some t) None = None
-app_of None u = None
-
--- the term of a type; None where a name is not in scope. The names of binders are numbered in the order of the text, from k on;
--- name 0 is the empty one, which the variable of an arrow has
-module _ (ns : List (List ℕ)) where
-  abbrev mutual
-    pub resolved : List (List ℕ) → ℕ → Written → Option Term
-    resolved bs k (Applied a more) = spine bs (resolved_atom bs k a) (k + atom_binders a) more
-    resolved bs k (Arrow a more b) = pi_of 0 (spine bs (resolved_atom bs k a) (k + atom_binders a) more) (resolved ([] ∷ bs) (k + atom_binders a + atoms_binders more) b)
-    resolved bs k (Bound x a b) = pi_of k (resolved bs (k + 1) a) (resolved (x ∷ bs) (k + 1 + binders a) b)
-
-    pub resolved_atom : List (List ℕ) → ℕ → Atom → Option Term
-    resolved_atom bs k (Name x) = named ns bs x
-    resolved_atom bs k Set = Some (Sort 0)
-    resolved_atom bs k (Paren a) = resolved bs k a
-
-    -- the function f applied to the atoms
-    pub spine : List (List ℕ) → Option Term → ℕ → Atoms → Option Term
-    spine bs f k NoAtom = f
-    spine bs f k (AndAtom a more) = spine bs (app_of f (resolved_atom bs k a)) (k + atom_binders a) more
-
--- ---- the kernel's reading, with `the same term` in place of conversion
+-- ---- types
 
 -- the level of a sort; no other term is one
 abbrev pub sort_level : Term → Option ℕ
@@ -98,23 +53,26 @@ level_of g c t = option_and_then sort_level (type_of g c t)
 
 -- ---- declarations
 
--- the signature with one postulate more, of name number k, where its type is a type
-abbrev pub with_type : ℕ → Signature Term → Term → Option (Signature Term)
-with_type k g t = if is_some (level_of g [] t) then Some (g ++ Postulate k t ∷ []) else None
+-- the postulates of these names with the type t
+abbrev pub postulates : List ResolvedName → Term → Signature Term
+postulates xs t = map (λ (x : ResolvedName). Postulate x.id t) xs
 
--- the signature with one postulate more, whose name x has number k: it is new, and the type is there and is a type
-abbrev pub with_named : ℕ → List (List ℕ) → Signature Term → List ℕ → Option Term → Option (Signature Term)
-with_named k ns g x t = if is_some (place_of ns x) then None else option_and_then (with_type k g) t
+-- The signature with the names of a line declared. Its type is judged once, over the signature before the line.
+abbrev pub with_type : Signature Term → List ResolvedName → Term → Option (Signature Term)
+with_type g xs t = if is_some (level_of g [] t) then Some (g ++ postulates xs t) else None
 
--- the signature with a declaration, whose type is resolved by the names before it
-abbrev pub with_line : ℕ → List (List ℕ) → Signature Term → Line → Option (Signature Term)
-with_line k ns g l = with_named (k + binders l.ty) ns g l.name (resolved ns [] k l.ty)
+abbrev pub with_line : Signature Term → ResolvedSignature → Option (Signature Term)
+with_line g s = option_and_then (with_type g s.names) (term_of s.ty)
 
--- the signature with all of these declarations, behind the names declared before; None where one of them is refused
-abbrev pub with_lines : ℕ → List (List ℕ) → Signature Term → List Line → Option (Signature Term)
-with_lines k ns g [] = Some g
-with_lines k ns g (l ∷ ls) = option_and_then (λ h. with_lines (k + binders l.ty + 1) (ns ++ l.name ∷ []) h ls) (with_line k ns g l)
+-- the signature with all of the lines; None where one of them is refused
+abbrev pub with_lines : Signature Term → List ResolvedSignature → Option (Signature Term)
+with_lines g [] = Some g
+with_lines g (s ∷ ss) = option_and_then (λ h. with_lines h ss) (with_line g s)
 
--- the signature of a text's declarations
-abbrev pub signature_of : List Line → Option (Signature Term)
-signature_of ls = with_lines 1 [] [] ls
+-- the signature with a declaration; None where it is refused, and for the declarations that are not judged so far
+abbrev pub with_decl : Signature Term → Resolved → Option (Signature Term)
+with_decl g (r.Postulate p ss) = with_lines g ss
+with_decl g (r.Function p s cs) = None
+with_decl g (r.Open p d b) = None
+with_decl g (r.«Data» p x bs a ss) = None
+with_decl g (r.Record p x bs a xs) = None

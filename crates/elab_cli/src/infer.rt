@@ -1,8 +1,8 @@
 //! The type of a term of a pool, by the kernel's rules. The arguments of a function are walked by a
-//! loop, so that a spine of any length is read. The calls are as deep as arguments, domains and
-//! codomains are nested.
+//! loop, and so are the codomains of a type of functions, so that a spine and a group of binders of any
+//! length are read. The calls are as deep as arguments and domains are nested.
 
-ghost use Rattle.std.specs.Prelude.{◌≡◌, ◌<◌, ◌+◌, [], ◌∷◌, ◌++◌, max, length, Some, None, IfOk, OnOk, is_some, option_map, slice_get};
+ghost use Rattle.std.specs.Prelude.{◌≡◌, ◌<◌, ◌+◌, [], ◌∷◌, ◌++◌, max, if◌then◌else◌, length, Some, None, IfOk, OnOk, is_some, option_map, slice_get};
 ghost use Rattle.core_rules.specs.Term.{Pi, Sort};
 ghost use Rattle.core_rules.specs.Signature.{def_type};
 ghost use Rattle.core_rules.specs.Mapped.{AllEntries};
@@ -183,29 +183,81 @@ fn level_of_term(
     Ok(sort_level(pool, ty))
 }
 
-/// The level of a type in the context with one entry more.
+/// The level of the type of an entry, which then stands last in the context. Where the entry has none
+/// the context is as before.
 #[cycle(infer)]
-fn level_under(
+fn level_of_domain(
     alloc: Global,
     pool: &mut TermPool,
     signature: &Signature,
     same: &mut Sameness,
     context: &mut Vec<Entry>,
     entry: Entry,
-    t: TermId,
 ) -> Result<Option<u32>, NoMemory>
-    requires within { t < length pool.old.trees }
     requires entry { entry.ty < length pool.old.trees }
     requires ready { IsReady pool.old signature.now same.old context.old.items }
     ensures extends { Extends pool.old pool.new }
     ensures kept { IsOf same.new pool.new }
-    ensures context { OnOk result (context.new.items ≡ context.old.items) }
-    ensures is { IfOk result (λ o. o ≡ level_of (signature_in pool.old signature.now) (context_in pool.old (context.old.items ++ entry ∷ [])) (tree pool.old t)) }
+    ensures context { IfOk result (λ o. context.new.items ≡ (if is_some o then context.old.items ++ entry ∷ [] else context.old.items)) }
+    ensures is { IfOk result (λ o. o ≡ level_of (signature_in pool.old signature.now) (context_in pool.old context.old.items) (tree pool.old entry.ty)) }
 {
+    let Some(level) = level_of_term(alloc, pool, signature, same, context, entry.ty)? else {
+        return Ok(None);
+    };
     context.push(entry)?;
-    let level = level_of_term(alloc, pool, signature, same, context, t)?;
-    context.pop();
-    Ok(level)
+    Ok(Some(level))
+}
+
+/// The sort of the type of functions from the type of an entry to `codomain`. The codomains that are
+/// types of functions themselves are walked by a loop.
+#[cycle(infer)]
+fn type_of_functions(
+    alloc: Global,
+    pool: &mut TermPool,
+    signature: &Signature,
+    same: &mut Sameness,
+    context: &mut Vec<Entry>,
+    first: Entry,
+    codomain: TermId,
+) -> Result<Option<TermId>, NoMemory>
+    requires first { first.ty < length pool.old.trees }
+    requires codomain { codomain < length pool.old.trees }
+    requires ready { IsReady pool.old signature.now same.old context.old.items }
+    ensures extends { Extends pool.old pool.new }
+    ensures kept { IsOf same.new pool.new }
+    ensures context { OnOk result (context.new.items ≡ context.old.items) }
+    ensures is { IfOk result (λ o. Answers pool.new o (type_of (signature_in pool.old signature.now) (context_in pool.old context.old.items) (Pi first.flag first.name (tree pool.old first.ty) (tree pool.old codomain)))) }
+{
+    let around = context.len();
+    let Some(mut top) = level_of_domain(alloc, pool, signature, same, context, first)? else {
+        return Ok(None);
+    };
+    let mut rest = codomain;
+    while let Node::Pi {
+        flag,
+        name,
+        dom,
+        cod,
+    } = pool.node(rest)
+    {
+        let entry = Entry {
+            name,
+            flag,
+            ty: dom,
+        };
+        let Some(level) = level_of_domain(alloc, pool, signature, same, context, entry)? else {
+            context.truncate(around);
+            return Ok(None);
+        };
+        top = top.max(level);
+        rest = cod;
+    }
+    let Some(last) = level_of_term(alloc, pool, signature, same, context, rest)? else {
+        context.truncate(around);
+        return Ok(None);
+    };
+    context.truncate(around);
+    sort_of_pi(pool, top, last)
 }
 
 /// The type of a function of type `fun` at an argument. The answer is None where the argument is
@@ -297,19 +349,12 @@ pub fn type_of_term(
             dom,
             cod,
         } => {
-            let Some(first) = level_of_term(alloc, pool, signature, same, context, dom)? else {
-                return Ok(None);
-            };
-            let entry = Entry {
+            let first = Entry {
                 name,
                 flag,
                 ty: dom,
             };
-            let Some(second) = level_under(alloc, pool, signature, same, context, entry, cod)?
-            else {
-                return Ok(None);
-            };
-            sort_of_pi(pool, first, second)
+            type_of_functions(alloc, pool, signature, same, context, first, cod)
         }
         Node::App { flag, fun, arg } => {
             let argument = Argument { flag, term: arg };

@@ -1,82 +1,134 @@
-ghost use Rattle.std.specs.Prelude.{◌≡◌, ◌≢◌, [], IfOk, OnOk, true, false, None, length};
-ghost use Rattle.std.specs.List.{AllByRecursion};
-ghost use Rattle.elab_cli.specs.Borders.{IsOnBorders};
-ghost use Rattle.elab_cli.specs.Accept.{with_named};
-ghost use Rattle.elab_cli.specs.Readings.{ForWithin, term_in};
-ghost use Rattle.elab_cli.specs.Judged.{Agrees, IsDeclared, JudgesLines, JudgesFile, declared};
+//! Declarations: each is resolved, and then its types are judged.
 
-use crate::declare::declare;
-use crate::lines::{Declaration, read_declaration, split_line};
-use crate::signs::{Sign, sign_at};
+ghost use Rattle.std.specs.Prelude.{◌≡◌, ◌++◌, IfOk, OnOk};
+ghost use Rattle.elab_cli.specs.Accept.{with_decl, with_line, with_lines};
+ghost use Rattle.elab_cli.specs.Judged.{Agrees, Judges, LoadsDecl, LoadsDecls, declared, postulates_of};
+ghost use Rattle.elab_cli.specs.Load as spec;
+
+use crate::error::{LoadError, LoadKind};
+use crate::infer::is_type;
 use crate::state::Core;
-use crate::verdict::Verdict;
-use agda_lexer::Token;
-use core_terms::NoMemory;
-use std::alloc::Global;
+use crate::translate::translate;
+use core_terms::{CoreDecl, NoMemory, Signature, TermId};
+use el_outside::Pos;
+use scope_check::{Resolved, ResolvedName, ResolvedSignature, ScopeError, ScopeKind, resolve};
+use source_tree::Decl;
 
-/// Declares what was read, unless something was refused before. The answer says whether all is
-/// accepted.
-fn accept(core: &mut Core, accepted: bool, declaration: &Declaration) -> Result<bool, NoMemory>
-    requires agrees { accepted ≡ true → Agrees core.old }
-    requires within { ForWithin core.old.pool declaration.now.ty }
-    ensures locals { OnOk result (core.new.locals ≡ core.old.locals) }
-    ensures accepted { result ≡ Ok true → (accepted ≡ true) × IsDeclared core.old core.new declaration.now.name.now (term_in core.old.pool declaration.now.ty) }
-    ensures refused { result ≡ Ok false → accepted ≡ true → with_named (length core.old.names) core.old.globals (declared core.old) declaration.now.name.now (term_in core.old.pool declaration.now.ty) ≡ None }
+/// The error of a name.
+fn scope_kind(kind: ScopeKind) -> LoadKind
+    ensures { result ≡ spec.scope_kind kind }
 {
-    if !accepted {
+    match kind {
+        ScopeKind::NotInScope => LoadKind::NotInScope,
+        ScopeKind::Duplicate => LoadKind::Duplicate,
+        ScopeKind::NotAConstructor => LoadKind::NotAConstructor,
+        ScopeKind::Nonlinear => LoadKind::Nonlinear,
+        ScopeKind::Misplaced => LoadKind::Misplaced,
+    }
+}
+
+/// The error of a type that is not accepted.
+fn refused() -> LoadError
+    ensures { result ≡ spec.error_at spec.beginning LoadKind.Refused }
+{
+    LoadError {
+        pos: Pos { line: 1, col: 1 },
+        kind: LoadKind::Refused,
+        name: None,
+    }
+}
+
+/// Adds postulates of one type.
+fn postulate(signature: &mut Signature, names: &[ResolvedName], ty: TermId) -> Result<(), NoMemory>
+    ensures { OnOk result (signature.new ≡ signature.old ++ postulates_of names.now ty) }
+{
+    for name in names {
+        signature.add(&CoreDecl::Postulate { name: name.id, ty })?;
+    }
+    Ok(())
+}
+
+/// Judges the type of a line, once for all its names, and declares them. The answer says whether it
+/// is accepted.
+fn declare(core: &mut Core, line: &ResolvedSignature) -> Result<bool, NoMemory>
+    requires { Agrees core.old }
+    ensures { IfOk result (Judges core.old core.new (with_line (declared core.old) line.now)) }
+{
+    let Some(ty) = translate(core.alloc, &mut core.pool, &line.ty)? else {
+        return Ok(false);
+    };
+    if !is_type(
+        core.alloc,
+        &mut core.pool,
+        &core.signature,
+        &mut core.same,
+        ty,
+    )? {
         return Ok(false);
     }
-    declare(core, declaration.name, declaration.ty)
+    postulate(&mut core.signature, line.names.as_slice(), ty)?;
+    Ok(true)
 }
 
-/// Reads and judges the declarations below the first line. A text that is not of the form is so
-/// whatever was refused before.
-fn judge_lines(alloc: Global, text: &str, below: &[Token]) -> Result<Verdict, NoMemory>
-    requires borders { AllByRecursion (IsOnBorders text.now) below.now }
-    ensures { IfOk result (λ v. JudgesLines text.now below.now v) }
+/// Judges the lines of a block in order. The answer says whether all are accepted.
+fn declare_lines(core: &mut Core, lines: &[ResolvedSignature]) -> Result<bool, NoMemory>
+    requires { Agrees core.old }
+    ensures { IfOk result (Judges core.old core.new (with_lines (declared core.old) lines.now)) }
 {
-    let mut core = Core::new(alloc)?;
-    let mut accepted = true;
-    let mut last = 1;
-    let mut rest = below;
-    while !rest.is_empty() {
-        let Some((first, others)) = rest.split_first() else {
-            return Ok(Verdict::Unsupported);
-        };
-        let line = first.pos.line;
-        if line <= last {
-            return Ok(Verdict::Unsupported);
+    for line in lines {
+        if !declare(core, line)? {
+            return Ok(false);
         }
-        let (on, more) = split_line(others, line);
-        match read_declaration(&mut core, text, first, on) {
-            Ok(Some(declaration)) => {
-                accepted = accept(&mut core, accepted, &declaration)?;
-            }
-            Ok(None) => return Ok(Verdict::Unsupported),
-            Err(NoMemory) => return Err(NoMemory),
-        }
-        last = line;
-        rest = more;
     }
-    if !accepted {
-        return Ok(Verdict::Refused);
-    }
-    Ok(Verdict::Complete(core.signature.defs()))
+    Ok(true)
 }
 
-/// Reads and judges the declarations of a text from its tokens.
-pub fn judge(alloc: Global, text: &str, tokens: &[Token]) -> Result<Verdict, NoMemory>
-    requires { AllByRecursion (IsOnBorders text.now) tokens.now }
-    ensures { IfOk result (λ v. JudgesFile text.now tokens.now v) }
+/// Judges a declaration that is resolved. The answer says whether it is accepted.
+fn judge(core: &mut Core, decl: &Resolved) -> Result<bool, NoMemory>
+    requires { Agrees core.old }
+    ensures { IfOk result (Judges core.old core.new (with_decl (declared core.old) decl.now)) }
 {
-    let Some((first, below)) = tokens.split_first() else {
-        return Ok(Verdict::Unsupported);
-    };
-    let Sign::Postulate = sign_at(text, first) else {
-        return Ok(Verdict::Unsupported);
-    };
-    if first.pos.line != 1 || first.pos.col != 1 || below.is_empty() {
-        return Ok(Verdict::Unsupported);
+    match decl {
+        Resolved::Postulate(_, lines) => declare_lines(core, lines.as_slice()),
+        Resolved::Function(_, _, _)
+        | Resolved::Open(_, _, _)
+        | Resolved::Data(_, _, _, _, _)
+        | Resolved::Record(_, _, _, _, _) => Ok(false),
     }
-    judge_lines(alloc, text, below)
+}
+
+/// Resolves a declaration, and then judges it. The answer is the error, if there is one.
+fn load_decl(core: &mut Core, decl: &Decl) -> Result<Option<LoadError>, NoMemory>
+    requires { Agrees core.old }
+    ensures { IfOk result (LoadsDecl core.old core.new decl.now) }
+{
+    let resolved = match resolve(core.alloc, &mut core.scope, decl) {
+        Ok(resolved) => resolved,
+        Err(ScopeError::NoMemory) => return Err(NoMemory),
+        Err(ScopeError::Bad { pos, kind, name }) => {
+            return Ok(Some(LoadError {
+                pos,
+                kind: scope_kind(kind),
+                name: Some(name),
+            }));
+        }
+    };
+    if judge(core, &resolved)? {
+        Ok(None)
+    } else {
+        Ok(Some(refused()))
+    }
+}
+
+/// Resolves and judges the declarations in order. The answer is the first error, if there is one.
+pub fn load_decls(core: &mut Core, decls: &[Decl]) -> Result<Option<LoadError>, NoMemory>
+    requires { Agrees core.old }
+    ensures { IfOk result (LoadsDecls core.old core.new decls.now) }
+{
+    for decl in decls {
+        if let Some(error) = load_decl(core, decl)? {
+            return Ok(Some(error));
+        }
+    }
+    Ok(None)
 }

@@ -1,32 +1,151 @@
-ghost use Rattle.std.specs.Prelude.{◌≤◌, length, IfOk};
-ghost use Rattle.elab_cli.specs.Form.{limit};
-ghost use Rattle.elab_cli.specs.Load.{HasVerdict};
+//! The load of a text: its stages in order, of which the first error ends it.
 
-use crate::judge::judge;
+ghost use Rattle.std.specs.Prelude.{◌≡◌, ◌≤◌, ◌+◌, ◌^◌, length, IfOk, Ok};
+ghost use Rattle.std.specs.Str.{chars};
+ghost use Rattle.el_outside.specs.Place.{end_of as end_place, pos as pos_at, start};
+ghost use Rattle.agda_layout.specs.Blocks as layout;
+ghost use Rattle.elab_cli.specs.Load as spec;
+ghost use Rattle.elab_cli.specs.Load.{HasVerdict, IsLexed, limit};
+ghost use Rattle.elab_cli.specs.Stages.{FileHasVerdict, IsRead};
+
+use crate::error::{LoadError, LoadKind};
+use crate::judge::load_decls;
+use crate::state::Core;
+use crate::unbuilt::first_unbuilt;
 use crate::verdict::Verdict;
-use agda_lexer::{LexError, lex};
-use el_outside::NoMemory;
+use agda_layout::{Laid, LayoutError, lay_out};
+use agda_lexer::laws::lexed_tokens_rise;
+use agda_lexer::{LexError, LexKind, Lexed, lex};
+use agda_parser::{ParseError, ParseKind, parse};
+use el_outside::{Cursor, LineTable, NoMemory, Pos};
+use source_tree::File;
 use std::alloc::Global;
 
 /// The most bytes that a text may have.
 pub const LIMIT: usize = 1_048_576;
 
-/// Reads and judges a text that is short enough.
+/// An error without a name.
+fn at(pos: Pos, kind: LoadKind) -> LoadError
+    ensures { result ≡ spec.error_at pos kind }
+{
+    LoadError {
+        pos,
+        kind,
+        name: None,
+    }
+}
+
+fn lex_kind(kind: LexKind) -> LoadKind
+    ensures { result ≡ spec.lex_kind kind }
+{
+    match kind {
+        LexKind::BadToken => LoadKind::BadToken,
+        LexKind::BadPragma => LoadKind::BadPragma,
+        LexKind::OpenComment => LoadKind::OpenComment,
+        LexKind::OpenHole => LoadKind::OpenHole,
+    }
+}
+
+fn parse_kind(kind: ParseKind) -> LoadKind
+    ensures { result ≡ spec.parse_kind kind }
+{
+    match kind {
+        ParseKind::Unexpected => LoadKind::Unexpected,
+        ParseKind::TooNested => LoadKind::TooNested,
+    }
+}
+
+/// The place behind a text.
+fn end_of(alloc: Global, text: &str) -> Result<Pos, NoMemory>
+    requires { length text.now + 2 ≤ 2 ^ 32 }
+    ensures { IfOk result (λ p. p ≡ pos_at (end_place (start (chars text.now)))) }
+{
+    let table = LineTable::new(alloc, text)?;
+    Ok(table.pos(text.len() as u32))
+}
+
+/// The place of the first character that does not begin before the byte.
+fn place_of(text: &str, byte: u32) -> Pos
+    requires { length text.now + 2 ≤ 2 ^ 32 }
+    ensures { result ≡ spec.place_of_byte text.now byte }
+{
+    let mut cursor = Cursor::new(text);
+    'walk: while cursor.at() < byte {
+        let Some(_) = cursor.next_char() else {
+            return cursor.pos();
+        };
+    }
+    cursor.pos()
+}
+
+/// A file that was read, or the error of its text.
+#[derive(Drop)]
+enum Reading {
+    File(File),
+    Error(LoadError),
+}
+
+fn parse_text(alloc: Global, text: &str, lexed: &Lexed, laid: &[Laid]) -> Result<Reading, NoMemory>
+    requires lexes { IsLexed text.now lexed.now }
+    requires lays { layout.laid lexed.now.tokens ≡ Ok laid.now }
+    ensures { IfOk result (IsRead text.now) }
+{
+    match parse(alloc, text, lexed.tokens.as_slice(), laid) {
+        Ok(file) => Ok(Reading::File(file)),
+        Err(ParseError::Bad { pos, kind }) => Ok(Reading::Error(at(pos, parse_kind(kind)))),
+        Err(ParseError::NoMemory) => Err(NoMemory),
+    }
+}
+
+fn lay_out_text(alloc: Global, text: &str, lexed: &Lexed) -> Result<Reading, NoMemory>
+    requires { IsLexed text.now lexed.now }
+    ensures { IfOk result (IsRead text.now) }
+{
+    lexed_tokens_rise(text);
+    match lay_out(alloc, lexed.tokens.as_slice()) {
+        Ok(laid) => parse_text(alloc, text, lexed, &laid),
+        Err(LayoutError::Outside { pos }) => Ok(Reading::Error(at(pos, LoadKind::Layout))),
+        Err(LayoutError::NoMemory) => Err(NoMemory),
+    }
+}
+
+fn read_text(alloc: Global, text: &str) -> Result<Reading, NoMemory>
+    requires { length text.now ≤ limit }
+    ensures { IfOk result (IsRead text.now) }
+{
+    match lex(alloc, text) {
+        Ok(lexed) => lay_out_text(alloc, text, &lexed),
+        Err(LexError::Bad { pos, kind }) => Ok(Reading::Error(at(pos, lex_kind(kind)))),
+        Err(LexError::NoMemory) => Err(NoMemory),
+    }
+}
+
+/// Loads a file whose forms are all built.
+fn load_file(alloc: Global, file: &File) -> Result<Verdict, NoMemory>
+    ensures { IfOk result (FileHasVerdict file.now) }
+{
+    let Ok(mut core) = Core::new(alloc) else {
+        return Err(NoMemory);
+    };
+    match load_decls(&mut core, file.decls.as_slice()) {
+        Ok(None) => Ok(Verdict::Complete(core.signature.defs())),
+        Ok(Some(error)) => Ok(Verdict::Error(error)),
+        Err(_) => Err(NoMemory),
+    }
+}
+
+/// Loads a text that is short enough.
 fn load_text(alloc: Global, text: &str) -> Result<Verdict, NoMemory>
     requires { length text.now ≤ limit }
-    ensures { IfOk result (λ v. HasVerdict text.now v) }
+    ensures { IfOk result (HasVerdict text.now) }
 {
-    let lexed = match lex(alloc, text) {
-        Ok(lexed) => lexed,
-        Err(LexError::Bad { .. }) => return Ok(Verdict::Unsupported),
-        Err(LexError::NoMemory) => return Err(NoMemory),
+    let file = match read_text(alloc, text)? {
+        Reading::File(file) => file,
+        Reading::Error(error) => return Ok(Verdict::Error(error)),
     };
-    if lexed.comment.is_some() {
-        return Ok(Verdict::Unsupported);
-    }
-    match judge(alloc, text, lexed.tokens.as_slice()) {
-        Ok(verdict) => Ok(verdict),
-        Err(_) => Err(NoMemory),
+    match first_unbuilt(&file) {
+        Some(byte) => Ok(Verdict::Error(at(place_of(text, byte), LoadKind::Unsupported))),
+        None => load_file(alloc, &file),
     }
 }
 
@@ -35,10 +154,16 @@ pub fn load(alloc: Global, text: &[u8]) -> Result<Verdict, NoMemory>
     ensures { IfOk result (λ v. HasVerdict text.now v) }
 {
     if text.len() > LIMIT {
-        return Ok(Verdict::Unsupported);
+        return Ok(Verdict::Error(at(Pos { line: 1, col: 1 }, LoadKind::TextTooLong)));
     }
-    let Ok(text) = str::from_utf8(text) else {
-        return Ok(Verdict::Unsupported);
-    };
-    load_text(alloc, text)
+    match str::from_utf8(text) {
+        Ok(text) => load_text(alloc, text),
+        Err(e) => {
+            let front = match str::from_utf8(&text[..e.valid_up_to()]) {
+                Ok(front) => front,
+                Err(_) => unreachable!(),
+            };
+            Ok(Verdict::Error(at(end_of(alloc, front)?, LoadKind::NotUtf8)))
+        }
+    }
 }

@@ -2,19 +2,17 @@
 //! written and how the program ends, by the words, the files and the text.
 #![tactic(auto)]
 
-mod declare;
-mod elaborate;
-mod globals;
+mod error;
 mod infer;
 mod judge;
 pub mod laws;
-mod lines;
 mod load;
 mod program;
 mod same;
-mod signs;
 mod state;
 mod status;
+mod translate;
+mod unbuilt;
 mod verdict;
 mod words;
 

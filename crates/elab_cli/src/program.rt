@@ -73,7 +73,7 @@ fn tell<O: Sink>(alloc: Global, verdict: Verdict, output: &mut O) -> Status
     ensures told { Tells verdict (O.written output.old) (O.written output.new) result }
     ensures failed { result ≡ Status.OutputFault → Rose (O.faults output.old) (O.faults output.new) }
 {
-    let Ok(line) = verdict.line(alloc) else {
+    let Ok(line) = verdict.lines(alloc) else {
         return Status::NoMemory;
     };
     match say(output, line.as_str()) {

@@ -5,24 +5,10 @@ use el_outside::{MemoryFiles, MemorySink, MemorySource, NoMemory};
 use std::alloc::Global;
 use std::test::Fail;
 
-const COMPLETE_1: &str =
-    "complete declarations=1 inserted=0 goals=0 unsolved=0 suspended=0 shadowed=0\n";
-
 const COMPLETE_2: &str =
     "complete declarations=2 inserted=0 goals=0 unsolved=0 suspended=0 shadowed=0\n";
 
-const COMPLETE_3: &str =
-    "complete declarations=3 inserted=0 goals=0 unsolved=0 suspended=0 shadowed=0\n";
-
-const COMPLETE_4: &str =
-    "complete declarations=4 inserted=0 goals=0 unsolved=0 suspended=0 shadowed=0\n";
-
-const COMPLETE_5: &str =
-    "complete declarations=5 inserted=0 goals=0 unsolved=0 suspended=0 shadowed=0\n";
-
-const REFUSED: &str = "error 1:1 Refused\n";
-
-const UNSUPPORTED: &str = "error 1:1 Unsupported\n";
+const UNEXPECTED: &str = "error 1:1 Unexpected\n";
 
 const USAGE: &str =
     "usage: elab_cli check NAME | session | gen SEED N; options --fuel N, --depth N, --order N\n";
@@ -71,99 +57,392 @@ fn outcome(
     Ok((status, bytes))
 }
 
+/// The line of an error that has no name, or of one with its name.
+fn error(alloc: Global, place: &str, kind: &str, name: Option<&str>) -> Result<String, NoMemory> {
+    Ok(match name {
+        None => format!(in alloc; "error {place} {kind}\n")?,
+        Some(name) => format!(in alloc; "error {place} {kind}\n  {name}\n")?,
+    })
+}
+
+/// The line of a complete report.
+fn complete(alloc: Global, declarations: u32) -> Result<String, NoMemory> {
+    Ok(format!(in alloc;
+        "complete declarations={declarations} inserted=0 goals=0 unsolved=0 suspended=0 shadowed=0\n"
+    )?)
+}
+
+fn check(alloc: Global, text: &[u8]) -> Result<(Status, Vec<u8>), NoMemory> {
+    outcome(alloc, text, ["check", "a"].as_slice(), &SOUND)
+}
+
 #[test]
-fn each_text_has_its_answer(rt: HostRuntime) -> Result<(), Fail> {
+fn complete_texts(rt: HostRuntime) -> Result<(), Fail> {
     let alloc = rt.alloc();
-    let rows: [(&str, &str); 42] = [
-        ("postulate\n  Nat : Set\n  z : Nat\n", COMPLETE_2),
-        ("postulate\n  A : Set\n  x : B\n", REFUSED),
-        ("postulate\n  z : Nat\n  Nat : Set\n", REFUSED),
-        ("postulate\n  A : Set\n  A : Set\n", REFUSED),
-        ("postulate\n  A : Set\n  x : A\n  y : x\n", REFUSED),
-        ("postulate\n  ℕ : Set\n  z′ : ℕ\n", COMPLETE_2),
-        ("\u{FEFF}postulate\r\n  A :\tSet\r\n\r\n", COMPLETE_1),
-        ("postulate\n  Set01 : Set\n", COMPLETE_1),
-        ("postulate\n  A--b : Set\n  x-> : A--b\n", COMPLETE_2),
-        ("postulate\n\n  A : Set\n\t\n  x   :    A", COMPLETE_2),
-        // A name is in scope after its own line alone.
-        ("postulate\n  A : A\n", REFUSED),
-        ("postulate\n  A : Set0\n", UNSUPPORTED),
-        ("postulate\n   A : Set\n", UNSUPPORTED),
-        ("postulate\n \u{FEFF} A : Set\n", UNSUPPORTED),
-        ("postulate\n  A :\n    Set\n", UNSUPPORTED),
-        ("postulate A : Set\n", UNSUPPORTED),
-        ("postulate\n", UNSUPPORTED),
-        ("", UNSUPPORTED),
-        ("\n", UNSUPPORTED),
-        (" postulate\n  A : Set\n", UNSUPPORTED),
-        ("postulate\n  A : Set -- a comment\n", UNSUPPORTED),
-        ("postulate\n  A : Set  B : Set\n", UNSUPPORTED),
-        ("postulate\n  A : Set\npostulate\n  B : Set\n", UNSUPPORTED),
+    let rows: [(&str, u32); 38] = [
+        ("", 0),
+        ("\n", 0),
+        ("module M where", 0),
+        ("module M where\npostulate\n  A : Set\n", 1),
+        ("postulate\n", 0),
+        ("postulate\n  Nat : Set\n  z : Nat\n", 2),
+        ("postulate\n  ℕ : Set\n  z′ : ℕ\n", 2),
+        ("\u{FEFF}postulate\r\n  A :\tSet\r\n\r\n", 1),
+        ("postulate\n  Set01 : Set\n", 1),
+        ("postulate\n  A--b : Set\n  x-> : A--b\n", 2),
+        ("postulate\n\n  A : Set\n\t\n  x   :    A", 2),
+        ("postulate\n   A : Set\n", 1),
+        ("postulate\n  A :\n    Set\n", 1),
+        ("postulate A : Set\n", 1),
+        (" postulate\n  A : Set\n", 1),
+        ("postulate\n  A : Set -- a comment\n", 1),
+        ("postulate\n  A : Set\npostulate\n  B : Set\n", 2),
+        ("postulate\n  A : Set\n    → Set\n", 1),
+        // Groups of names, and levels.
+        ("postulate\n  A B : Set\n  x y z : A → B\n", 5),
+        ("postulate\n  A : Set0\n  B : Set₁\n  F : Set → Set1\n", 3),
+        ("postulate x : Set1000000\n", 1),
+        ("postulate\n  F : Set → Set\n", 1),
         (
             "postulate\n  Nat : Set\n  z : Nat\n  P : Nat → Set\n  w : (n : Nat) → P n\n  y : P z\n",
-            COMPLETE_5,
+            5,
         ),
-        ("postulate\n  F : Set → Set\n  x : F Set\n", REFUSED),
+        // A group of variables has one type: that of the second is not under the first.
+        (
+            "postulate\n  A : Set\n  P : A → A → Set\n  w : (x y : A) → P x y\n  v : (a b : A) → P b a\n  Q : ((x : A) (y : A) → P x y) → Set\n  u : Q w\n",
+            6,
+        ),
+        (
+            "postulate\n  A : Set\n  P : A → Set\n  w : (x : A) (p q : P x) → P x\n  Q : ((x : A) → P x → (r : P x) → P x) → Set\n  u : Q w\n",
+            5,
+        ),
+        // `∀` over binders with types is the function type.
+        (
+            "postulate\n  A : Set\n  P : A → Set\n  w : ∀ (x : A) (p : P x) → P x\n  Q : ((x : A) → P x → P x) → Set\n  u : Q w\n",
+            5,
+        ),
         (
             "postulate\n  A : Set\n  f : (A → A) → A\n  B : (A → A → A) → Set\n  g : (h : A -> A -> A) -> B h\n",
-            COMPLETE_4,
-        ),
-        (
-            "postulate\n  A : Set\n  f : (A → A) → A\n  B : (A → A → A) → Set\n  g : (h : A -> A -> A) -> B (h)\n",
-            COMPLETE_4,
+            4,
         ),
         (
             "postulate\n  A : Set\n  f : (A → A) → A\n  B : (A → A → A) → Set\n  g : (h : A -> A -> A) -> B ((h))\n",
-            COMPLETE_4,
+            4,
         ),
-        ("postulate\n  A : Set\n  f : A → A\n  x : f A\n", REFUSED),
         (
             "postulate\n  A : Set\n  P : A → Set\n  q : (A : A) → P A\n",
-            COMPLETE_3,
-        ),
-        (
-            "postulate\n  A : Set\n  F : Set → Set\n  x : F (Set → A)\n",
-            REFUSED,
+            3,
         ),
         (
             "postulate\n  A : Set\n  F : Set → Set\n  x : F (A → A)\n",
-            COMPLETE_3,
+            3,
         ),
         (
             "postulate\n  A : Set\n  P : Set → Set\n  R : (g : (x : A) → A) → Set\n  Q : (((y : A) → A) → Set) → Set\n  t : Q R\n",
-            COMPLETE_5,
+            5,
         ),
         (
             "postulate\n  P : (A : Set) → A → Set\n  B : Set\n  b : B\n  y : P B b\n",
-            COMPLETE_4,
+            4,
         ),
         (
-            "postulate\n  P : (A : Set) → A → Set\n  B : Set\n  b : B\n  y : P B b\n  z : P b B\n",
-            REFUSED,
+            "postulate\n  P : (A : Set) → A → Set\n  B : Set\n  b : B\n  y : (P B) b\n",
+            4,
         ),
-        ("postulate\n  A : Set\n  f : A →A\n", REFUSED),
-        ("postulate\n  F : Set → Set1\n", UNSUPPORTED),
-        // What is behind a refused line is still read.
-        ("postulate\n  x : B\n  y : (\n", UNSUPPORTED),
-        ("postulate\n  A : Set\n  B : A →\n", UNSUPPORTED),
-        ("postulate\n  A : (A : Set)\n", UNSUPPORTED),
-        ("postulate\n  F : Set → Set\n", COMPLETE_1),
-        ("postulate\n  A : Set\n    → Set\n", UNSUPPORTED),
+        // The second name of a group is a name of its own.
+        (
+            "postulate\n  A B : Set\n  P : A → Set\n  x y : A\n  p : P y\n",
+            6,
+        ),
+        (
+            "postulate\n  F : (A B : Set) → A → B → Set\n  A B : Set\n  a : A\n  b : B\n  x : F A B a b\n",
+            6,
+        ),
+        ("{-# BUILTIN x #-}\npostulate A : Set", 1),
+        (
+            "postulate\n  A : Set\n{- a\ncomment -}\npostulate B : Set\n",
+            2,
+        ),
+        (
+            "postulate\n  A : Set\npostulate\npostulate\n  B : A → Set\n",
+            2,
+        ),
     ];
-    for (text, answer) in rows {
-        let (status, bytes) = outcome(alloc, text.as_bytes(), ["check", "a"].as_slice(), &SOUND)?;
-        assert_eq!(rt; bytes.as_slice(), answer.as_bytes(), "at {text:?}");
-        let meant = if answer.starts_with("complete") {
-            Status::Done
-        } else {
-            Status::FileError
-        };
-        assert_eq!(rt; status, meant, "at {text:?}");
+    for (text, declarations) in rows {
+        let (status, bytes) = check(alloc, text.as_bytes())?;
+        let report = complete(alloc, declarations)?;
+        assert_eq!(rt; bytes.as_slice(), report.as_str().as_bytes(), "at {text:?}");
+        assert_eq!(rt; status, Status::Done, "at {text:?}");
     }
     Ok(())
 }
 
-/// The front of a text, a part so many times, a middle, another part so many times, and a line feed.
+/// Each stage at its place, and which of several errors is the first.
+#[test]
+fn texts_in_error(rt: HostRuntime) -> Result<(), Fail> {
+    let alloc = rt.alloc();
+    let rows: [(&str, &str, &str, Option<&str>); 43] = [
+        ("{-", "1:1", "OpenComment", None),
+        ("x : {!", "1:5", "OpenHole", None),
+        ("{-# OPTIONS #-}", "1:1", "BadPragma", None),
+        ("postulate x : Set1000001", "1:15", "BadToken", None),
+        ("  postulate\nx", "2:1", "Layout", None),
+        ("module where\n x\ny", "1:8", "Unexpected", None),
+        (
+            "data Nat : Set where\n  zero : Nat\n  suc : Nat → Nat\nf : Nat → Nat\nf x = 0",
+            "5:7",
+            "BadToken",
+            None,
+        ),
+        (
+            "data Nat : Set where\n  zero : Nat\n  suc : Nat → Nat\nmutual",
+            "4:1",
+            "Unexpected",
+            None,
+        ),
+        // A block is resolved whole before its first type is judged; two blocks one after another.
+        (
+            "postulate\n  F : Set → Set\n  x : F Set\n  y : B\n",
+            "4:7",
+            "NotInScope",
+            Some("B"),
+        ),
+        (
+            "postulate\n  F : Set → Set\n  x : F Set\npostulate\n  y : B\n",
+            "1:1",
+            "Refused",
+            None,
+        ),
+        (
+            "postulate\n  x : C\n  y : λ a → a\n",
+            "3:7",
+            "Unsupported",
+            None,
+        ),
+        (
+            "postulate\n  B : λ x → x\n  C : (",
+            "3:8",
+            "Unexpected",
+            None,
+        ),
+        (
+            "postulate\n  B : λ x → x\n  C : (\n",
+            "4:1",
+            "Unexpected",
+            None,
+        ),
+        (
+            "postulate\n  A : Set\n  x : B\n",
+            "3:7",
+            "NotInScope",
+            Some("B"),
+        ),
+        (
+            "postulate\n  z : Nat\n  Nat : Set\n",
+            "2:7",
+            "NotInScope",
+            Some("Nat"),
+        ),
+        (
+            "postulate\n  A : Set\n  A : Set\n",
+            "3:3",
+            "Duplicate",
+            Some("A"),
+        ),
+        ("postulate\n  A B A : Set\n", "2:7", "Duplicate", Some("A")),
+        (
+            "postulate\n  A : Set\npostulate A : Set\n",
+            "3:11",
+            "Duplicate",
+            Some("A"),
+        ),
+        // A name is in scope after its own line alone.
+        ("postulate\n  A : A\n", "2:7", "NotInScope", Some("A")),
+        (
+            "postulate\n  A B : Set → A\n",
+            "2:15",
+            "NotInScope",
+            Some("A"),
+        ),
+        (
+            "postulate\n  A : Set\n  f : A →A\n",
+            "3:9",
+            "NotInScope",
+            Some("→A"),
+        ),
+        // In a binder's type its own names are not in scope.
+        (
+            "postulate\n  A : (x y : x) → Set\n",
+            "2:14",
+            "NotInScope",
+            Some("x"),
+        ),
+        (
+            "postulate\n  A : Set\n  x : A\n  y : x\n",
+            "1:1",
+            "Refused",
+            None,
+        ),
+        (
+            "postulate\n  F : Set → Set\n  x : F Set\n",
+            "1:1",
+            "Refused",
+            None,
+        ),
+        (
+            "postulate\n  A : Set\n  f : A → A\n  x : f A\n",
+            "1:1",
+            "Refused",
+            None,
+        ),
+        (
+            "postulate\n  A : Set\n  F : Set → Set\n  x : F (Set → A)\n",
+            "1:1",
+            "Refused",
+            None,
+        ),
+        (
+            "postulate\n  P : (A : Set) → A → Set\n  B : Set\n  b : B\n  y : P B b\n  z : P b B\n",
+            "1:1",
+            "Refused",
+            None,
+        ),
+        (
+            "postulate\n  F : Set → Set\n  A : F Set1\n",
+            "1:1",
+            "Refused",
+            None,
+        ),
+        (
+            "postulate\n  F : Set1 → Set\n  A : F Set1\n",
+            "1:1",
+            "Refused",
+            None,
+        ),
+        // The later variable of a group has the type of the first, one variable further in.
+        (
+            "postulate\n  A : Set\n  P : A → Set\n  w : (x : A) (p q : P x) → P q\n",
+            "1:1",
+            "Refused",
+            None,
+        ),
+        (
+            "postulate\n \u{FEFF} A : Set\n  B : Set\n",
+            "3:3",
+            "Unexpected",
+            None,
+        ),
+        (
+            "postulate\n  A : Set  B : Set\n",
+            "2:14",
+            "Unexpected",
+            None,
+        ),
+        (
+            "postulate\n  A : Set\n  B : A →\n",
+            "4:1",
+            "Unexpected",
+            None,
+        ),
+        ("postulate\n  A : (A : Set)\n", "3:1", "Unexpected", None),
+        ("postulate\n  x : B\n  y : (\n", "4:1", "Unexpected", None),
+        // The first stage that is in error, wherever the others are.
+        ("postulate\n  x : λ\n{-", "3:1", "OpenComment", None),
+        ("  postulate\nx : λ {!", "2:7", "OpenHole", None),
+        ("  postulate )\nx", "2:1", "Layout", None),
+        ("postulate\n  x : C\n) data", "3:1", "Unexpected", None),
+        (
+            "postulate\n  x : C\ndata D : Set where\n",
+            "3:1",
+            "Unsupported",
+            None,
+        ),
+        (
+            "postulate\n  A : A\n  A : Set\n",
+            "2:7",
+            "NotInScope",
+            Some("A"),
+        ),
+        (
+            "postulate\n  A : Set\n  x : A A\npostulate\n  A : Set\n",
+            "1:1",
+            "Refused",
+            None,
+        ),
+        (
+            "postulate\n  A : Set\n  x : A A\n  A : Set\n",
+            "4:3",
+            "Duplicate",
+            Some("A"),
+        ),
+    ];
+    for (text, place, kind, name) in rows {
+        let (status, bytes) = check(alloc, text.as_bytes())?;
+        let lines = error(alloc, place, kind, name)?;
+        assert_eq!(rt; bytes.as_slice(), lines.as_str().as_bytes(), "at {text:?}");
+        assert_eq!(rt; status, Status::FileError, "at {text:?}");
+    }
+    Ok(())
+}
+
+/// Each form that is not built, at its first token, behind forms that are built and before others that are not.
+#[test]
+fn forms_that_are_not_built(rt: HostRuntime) -> Result<(), Fail> {
+    let alloc = rt.alloc();
+    let rows: [(&str, &str); 35] = [
+        ("data\n  D : Set where", "1:1"),
+        ("record\n  R : Set where\n", "1:1"),
+        ("postulate\n  A : Set\nopen\n R public\n", "3:1"),
+        ("f : Set\nf = Set\n", "1:1"),
+        ("f g : λ x → x\n", "1:1"),
+        ("f x = _\n", "1:1"),
+        ("postulate\n  A : Set\ng : A\npostulate B : _\n", "3:1"),
+        ("postulate\n  A : λ x → x\n", "2:7"),
+        ("postulate\n  A : \\x → x\n", "2:7"),
+        ("postulate\n  A : (λ x → _)\n", "2:8"),
+        ("postulate\n  A : record { }\n", "2:7"),
+        ("postulate\n  A : record { f = _ }\n", "2:7"),
+        ("postulate\n  A : f .p\n", "2:9"),
+        ("postulate\n  A : f x .p _\n", "2:11"),
+        ("postulate\n  A : f .R.p\n", "2:9"),
+        ("postulate\n  A : R.f\n", "2:7"),
+        ("postulate\n  A : f R.f\n", "2:9"),
+        ("postulate\n  A : f {x}\n", "2:9"),
+        ("postulate\n  A : f {x = _}\n", "2:9"),
+        ("postulate\n  A : f (g {_} _) _\n", "2:12"),
+        ("postulate\n  A : {x : _} → Set\n", "2:7"),
+        ("postulate\n  A : (y : Set) {x : Set} → Set\n", "2:17"),
+        ("postulate\n  A : (y : _) {x : Set} → Set\n", "2:12"),
+        ("postulate\n  A : ∀ {x} → Set\n", "2:9"),
+        ("postulate\n  A : ∀ {x : Set} → Set\n", "2:9"),
+        ("postulate\n  A : ∀ (y : Set) x → _\n", "2:19"),
+        ("postulate\n  A : Set → _\n", "2:13"),
+        ("postulate\n  A : _ → _\n", "2:7"),
+        ("postulate\n  A : ?\n", "2:7"),
+        ("postulate\n  A : f {! _ !}\n", "2:9"),
+        (
+            "postulate\n  A : Set\n  B C : A → (x : Set) → f Set (g ?) _\n  D : λ x → x\n",
+            "3:34",
+        ),
+        // It comes before every name.
+        ("postulate\n  A : B\n  A : _\n", "3:7"),
+        (
+            "postulate\n  A : Set Set\npostulate\n  ℕ : Set → ?\n",
+            "4:13",
+        ),
+        ("\u{FEFF}data D : Set where", "1:1"),
+        ("{- λ -} postulate é : (λ x → x)", "1:24"),
+    ];
+    for (text, place) in rows {
+        let (status, bytes) = check(alloc, text.as_bytes())?;
+        let lines = error(alloc, place, "Unsupported", None)?;
+        assert_eq!(rt; bytes.as_slice(), lines.as_str().as_bytes(), "at {text:?}");
+        assert_eq!(rt; status, Status::FileError, "at {text:?}");
+    }
+    Ok(())
+}
+
+/// The front of a text, a part so many times, a middle, and another part so many times.
 fn nested(
     alloc: Global,
     front: &str,
@@ -180,23 +459,27 @@ fn nested(
     for _ in 0..times {
         text.push_str(closing)?;
     }
-    text.push_str("\n")?;
     Ok(text)
 }
 
 #[test]
 fn types_may_be_nested_200_deep(rt: HostRuntime) -> Result<(), Fail> {
     let alloc = rt.alloc();
+    let one = complete(alloc, 1)?;
+    let two = complete(alloc, 2)?;
+    // The middle of the first stands behind 14 characters and 201 parentheses; the arrows take four columns each.
+    let deep = error(alloc, "1:216", "TooNested", None)?;
+    let far = error(alloc, "3:811", "TooNested", None)?;
     let rows: [(&str, &str, &str, &str, u32, &str); 4] = [
-        ("postulate\n  x : ", "(", "Set", ")", 200, COMPLETE_1),
-        ("postulate\n  x : ", "(", "Set", ")", 201, UNSUPPORTED),
+        ("postulate x : ", "(", "Set", ")", 200, one.as_str()),
+        ("postulate x : ", "(", "Set", ")", 201, deep.as_str()),
         (
             "postulate\n  A : Set\n  f : ",
             "A → ",
             "A",
             "",
             200,
-            COMPLETE_2,
+            two.as_str(),
         ),
         (
             "postulate\n  A : Set\n  f : ",
@@ -204,12 +487,12 @@ fn types_may_be_nested_200_deep(rt: HostRuntime) -> Result<(), Fail> {
             "A",
             "",
             201,
-            UNSUPPORTED,
+            far.as_str(),
         ),
     ];
     for (front, opening, middle, closing, times, answer) in rows {
         let text = nested(alloc, front, opening, middle, closing, times)?;
-        let (_, bytes) = outcome(alloc, text.as_bytes(), ["check", "a"].as_slice(), &SOUND)?;
+        let (_, bytes) = check(alloc, text.as_bytes())?;
         assert_eq!(rt;
             bytes.as_slice(),
             answer.as_bytes(),
@@ -219,28 +502,56 @@ fn types_may_be_nested_200_deep(rt: HostRuntime) -> Result<(), Fail> {
     Ok(())
 }
 
+/// Binders, names of a group, arguments, lines and names of a line nest nothing, however many there are.
+#[test]
+fn long_types(rt: HostRuntime) -> Result<(), Fail> {
+    let alloc = rt.alloc();
+    let rows: [(&str, &str, &str, u32); 4] = [
+        ("postulate\n  A : Set\n  f : ", "(x : A) ", "→ A", 2),
+        ("postulate\n  A : Set\n  f : (x", " x", " : A) → A", 2),
+        ("postulate\n  A : Set\n  f : ", "", "A", 2),
+        ("", "postulate\n", "postulate A : Set", 1),
+    ];
+    for (front, opening, middle, declarations) in rows {
+        let text = nested(alloc, front, opening, middle, "", 2_000)?;
+        let (_, bytes) = check(alloc, text.as_bytes())?;
+        let report = complete(alloc, declarations)?;
+        assert_eq!(rt;
+            bytes.as_slice(),
+            report.as_str().as_bytes(),
+            "at {opening:?}"
+        );
+    }
+    Ok(())
+}
+
 #[test]
 fn texts_that_are_too_long_or_no_text(rt: HostRuntime) -> Result<(), Fail> {
     let alloc = rt.alloc();
-    let check = ["check", "a"];
     // At 1,048,576 bytes a text is read, and at one more it is not.
-    let mut text = b"postulate\n  A : Set\n".to_vec(alloc)?;
+    let mut text = Vec::new(alloc);
     text.resize(1_048_576, b' ')?;
-    let (status, bytes) = outcome(alloc, &text, check.as_slice(), &SOUND)?;
-    assert_eq!(rt; bytes.as_slice(), COMPLETE_1.as_bytes());
+    let (status, bytes) = check(alloc, &text)?;
+    let report = complete(alloc, 0)?;
+    assert_eq!(rt; bytes.as_slice(), report.as_str().as_bytes());
     assert_eq!(rt; status, Status::Done);
     text.push(b' ')?;
-    let (status, bytes) = outcome(alloc, &text, check.as_slice(), &SOUND)?;
-    assert_eq!(rt; bytes.as_slice(), UNSUPPORTED.as_bytes());
+    let (status, bytes) = check(alloc, &text)?;
+    assert_eq!(rt; bytes.as_slice(), b"error 1:1 TextTooLong\n".as_slice());
     assert_eq!(rt; status, Status::FileError);
-    let (status, bytes) = outcome(
-        alloc,
-        b"postulate\n  A : Set\xFF\n",
-        check.as_slice(),
-        &SOUND,
-    )?;
-    assert_eq!(rt; bytes.as_slice(), UNSUPPORTED.as_bytes());
-    assert_eq!(rt; status, Status::FileError);
+    let rows: [(&[u8], &str); 5] = [
+        (b"postulate\xFF", "1:10"),
+        (b"\xFF", "1:1"),
+        (b"postulate\n  \xE2\x84\x95 : \xE2\x84", "2:7"),
+        (b"\xEF\xBB\xBFa\xC0", "1:2"),
+        (b"{-\n\n\x80", "3:1"),
+    ];
+    for (text, place) in rows {
+        let (status, bytes) = check(alloc, text)?;
+        let lines = error(alloc, place, "NotUtf8", None)?;
+        assert_eq!(rt; bytes.as_slice(), lines.as_str().as_bytes());
+        assert_eq!(rt; status, Status::FileError);
+    }
     Ok(())
 }
 
@@ -269,7 +580,7 @@ fn each_fault_has_its_status(rt: HostRuntime) -> Result<(), Fail> {
     let alloc = rt.alloc();
     let texts: [(&[u8], &[&str], &str, Status); 3] = [
         (ROW_1.as_slice(), &["check", "a"], COMPLETE_2, Status::Done),
-        (b"", &["check", "a"], UNSUPPORTED, Status::FileError),
+        (b")", &["check", "a"], UNEXPECTED, Status::FileError),
         (b"", &["check"], USAGE, Status::Usage),
     ];
     for (text, given, line, meant) in texts {

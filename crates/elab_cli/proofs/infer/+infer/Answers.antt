@@ -1,4 +1,5 @@
-use Rattle.std.proofs.Common.{arith, ◌<◌, ◌≤◌, ◌∷◌, ◌++◌, [], ℕ, max, sym, subst, ◌∙◌}
+use Rattle.std.proofs.Common.{◌≡◌, arith, ◌<◌, ◌≤◌, ◌∷◌, ◌++◌, [], ℕ, ap, max, take, sym, subst, ◌∙◌}
+use Rattle.std.proofs.lemmas.List.{take_all}
 use Rattle.std.specs.Prelude.{Option, IfOk}
 use Rattle.std.specs.List.{AllByRecursion}
 use Rattle.core_rules.specs.Term.{Term}
@@ -6,7 +7,8 @@ use Rattle.core_terms.specs.Growth.{Extends-length, Extends-trans}
 use Rattle.core_terms.specs.Signature.{signature_in}
 use Rattle.elab_cli.specs.Inferred.{Answers, IsReady, context_in}
 use Rattle.elab_cli.specs.declared.infer.Argument.{Argument}
-use Rattle.elab_cli.proofs.Inferring.{all-front, all-last, head-refused, next-refused, next-reading, pi-refused, pi-typed, ready-extends}
+use Rattle.elab_cli.proofs.Inferring.{all-front, all-last, head-refused, longer-push, next-refused, next-reading, on-ok, outer-push, ready-extends, ready-push, step-ready, step-refused, step-walk, walk-first, walk-last, walk-refused}
+use Rattle.elab_cli.proofs.Sameness.{IsOf-Extends}
 use Rattle.elab_cli.proofs.infer.+infer.Goals as goal
 
 pub type_of_application-returns-in_default-clause-is : goal.type_of_application-returns-in_default-clause-is
@@ -49,33 +51,81 @@ type_of_application-loop-next-preserved t c =
           (omega (arith, c.requires.fun, c.requires.argument)) c.type_at.new.pool c.in-Some-2.result (rw c.in-Some-2.is at c.in_ok-result.ensures.is);
     }
 
-pub type_of_term-level_under-requires : goal.type_of_term-level_under-requires
-type_of_term-level_under-requires t c =
-    let dom : c.in-Pi.dom < c.args.t = c.in-Pi.ensures.below.0 in
-    let cod : c.in-Pi.cod < c.args.t = c.in-Pi.ensures.below.1 in
-    let ready : IsReady c.args.pool.now c.args.signature.now c.args.same.now c.level_of_term.new.context.items = rw c.in_ok-first-in-Pi.ensures.context c.requires.ready in (
+pub type_of_functions-loop-flag-init : goal.type_of_functions-loop-flag-init
+type_of_functions-loop-flag-init t c =
+    let items : c.level_of_domain.new.context.items ≡ c.args.context.now.items ++ c.args.first ∷ [] = rw c.in-Some.is at c.in_ok-top.ensures.context in
+    record {
+      extends = c.in_ok-top.ensures.extends;
+      same = c.in_ok-top.ensures.kept;
+      outer = outer-push c.args.context.now.items c.args.context.now.items c.level_of_domain.new.context.items c.args.first items (omega arith) (take_all _ c.args.context.now.items (omega arith));
+      longer = longer-push c.args.context.now.items c.args.context.now.items c.level_of_domain.new.context.items c.args.first items (omega arith);
+      ready = rw items (ready-push c.args.pool.now c.args.signature.now c.args.same.now c.args.context.now.items c.args.first c.requires.ready c.requires.first);
+      bound = omega arith;
+      walk = rw items (walk-first c.args.pool.now c.args.signature.now c.args.context.now.items c.args.first c.args.codomain c.in-Some.top (sym c.in-Some.is ∙ c.in_ok-top.ensures.is));
+    }
+
+pub type_of_functions-level_of_domain-requires-in-Pi : goal.type_of_functions-level_of_domain-requires-in-Pi
+type_of_functions-level_of_domain-requires-in-Pi t c =
+    let dom : c.in-Pi.dom < c.loop-flag.rest = c.in-Pi.ensures.below.0 in
+    let bound : c.loop-flag.rest ≤ c.args.codomain = c.loop-flag.invariant.bound in (
       omega arith,
       (
-        omega (arith, Extends-length c.in_ok-first-in-Pi.ensures.extends, c.requires.within),
-        (
-          omega (arith, Extends-length c.in_ok-first-in-Pi.ensures.extends, c.requires.within),
-          ready-extends c.args.pool.now c.level_of_term.new.pool c.in_ok-first-in-Pi.ensures.extends ready c.level_of_term.new.same c.in_ok-first-in-Pi.ensures.kept,
-        ),
+        omega (arith, Extends-length c.loop-flag.invariant.extends, c.requires.codomain),
+        ready-extends c.args.pool.now c.loop-flag.pool c.loop-flag.invariant.extends c.loop-flag.invariant.ready c.loop-flag.same c.loop-flag.invariant.same,
       ),
     )
 
-pub type_of_term-returns-in_default-2-clause-is : goal.type_of_term-returns-in_default-2-clause-is
-type_of_term-returns-in_default-2-clause-is t c =
-    let dom : c.in-Pi.dom < c.args.t = c.in-Pi.ensures.below.0 in
-    let cod : c.in-Pi.cod < c.args.t = c.in-Pi.ensures.below.1 in
-    pi-refused c.args.t c.in-Pi.dom c.in-Pi.cod c.in-Pi.name c.in-Pi.flag c.requires.ready c.in_ok-first-in-Pi.ensures.extends c.in_ok-first-in-Pi.ensures.context c.in-Pi.ensures.is
-    (omega (arith, c.requires.within)) (omega (arith, c.requires.within)) c.in-Some.first (sym c.in-Some.is ∙ c.in_ok-first-in-Pi.ensures.is) (rw c.in_default-2.is at c.in_ok-second-in-Pi.ensures.is)
+pub type_of_functions-returns-in_default-2-clause-is : goal.type_of_functions-returns-in_default-2-clause-is
+type_of_functions-returns-in_default-2-clause-is t c =
+    step-refused c.args.context.now.items c.args.first c.args.codomain c.loop-flag.top c.loop-flag.rest c.loop-flag.invariant.ready c.loop-flag.invariant.extends c.loop-flag.invariant.walk
+    (record { name = c.in-Pi.name; flag = c.in-Pi.flag; ty = c.in-Pi.dom }) c.in-Pi.cod (omega (arith, c.loop-flag.invariant.bound, c.requires.codomain)) c.in-Pi.ensures.below.0 c.in-Pi.ensures.below.1 c.in-Pi.ensures.is
+    (rw c.in_default-2.is at c.in_ok-level.ensures.is)
 
-pub type_of_term-returns-in-Some-2-clause-is : goal.type_of_term-returns-in-Some-2-clause-is
-type_of_term-returns-in-Some-2-clause-is t c =
-    let dom : c.in-Pi.dom < c.args.t = c.in-Pi.ensures.below.0 in
-    let cod : c.in-Pi.cod < c.args.t = c.in-Pi.ensures.below.1 in
-    subst (λ (w : Option Term). IfOk c.sort_of_pi.result (λ (o : Option ℕ). Answers c.sort_of_pi.new.pool o w))
-    (pi-typed c.args.t c.in-Pi.dom c.in-Pi.cod c.in-Pi.name c.in-Pi.flag c.requires.ready c.in_ok-first-in-Pi.ensures.extends c.in_ok-first-in-Pi.ensures.context c.in-Pi.ensures.is
-    (omega (arith, c.requires.within)) (omega (arith, c.requires.within)) c.in-Some.first c.in-Some-2.second (sym c.in-Some.is ∙ c.in_ok-first-in-Pi.ensures.is) (sym c.in-Some-2.is ∙ c.in_ok-second-in-Pi.ensures.is))
-    c.sort_of_pi.ensures.is
+pub type_of_functions-loop-flag-preserved : goal.type_of_functions-loop-flag-preserved
+type_of_functions-loop-flag-preserved t c =
+    let cod : c.in-Pi.cod < c.loop-flag.rest = c.in-Pi.ensures.below.1 in
+    let items : c.level_of_domain-in-Pi.new.context.items ≡ c.loop-flag.context.items ++ (record { name = c.in-Pi.name; flag = c.in-Pi.flag; ty = c.in-Pi.dom }) ∷ [] = rw c.in-Some-2.is at c.in_ok-level.ensures.context in
+    record {
+      extends = Extends-trans c.loop-flag.invariant.extends c.in_ok-level.ensures.extends;
+      same = c.in_ok-level.ensures.kept;
+      outer = outer-push c.args.context.now.items c.loop-flag.context.items c.level_of_domain-in-Pi.new.context.items _ items c.loop-flag.invariant.longer c.loop-flag.invariant.outer;
+      longer = longer-push c.args.context.now.items c.loop-flag.context.items c.level_of_domain-in-Pi.new.context.items _ items c.loop-flag.invariant.longer;
+      ready = rw items
+          (step-ready c.args.context.now.items c.args.first c.args.codomain c.loop-flag.top c.loop-flag.rest c.loop-flag.invariant.ready c.loop-flag.invariant.extends c.loop-flag.invariant.walk
+          (record { name = c.in-Pi.name; flag = c.in-Pi.flag; ty = c.in-Pi.dom }) c.in-Pi.cod (omega (arith, c.loop-flag.invariant.bound, c.requires.codomain)) c.in-Pi.ensures.below.0 c.in-Pi.ensures.below.1 c.in-Pi.ensures.is);
+      bound = omega (arith, c.loop-flag.invariant.bound);
+      walk = rw (items, c.max-top.ensures)
+          (step-walk c.args.context.now.items c.args.first c.args.codomain c.loop-flag.top c.loop-flag.rest c.loop-flag.invariant.ready c.loop-flag.invariant.extends c.loop-flag.invariant.walk
+          (record { name = c.in-Pi.name; flag = c.in-Pi.flag; ty = c.in-Pi.dom }) c.in-Pi.cod (omega (arith, c.loop-flag.invariant.bound, c.requires.codomain)) c.in-Pi.ensures.below.0 c.in-Pi.ensures.below.1 c.in-Pi.ensures.is
+          c.in-Some-2.level (sym c.in-Some-2.is ∙ c.in_ok-level.ensures.is));
+    }
+
+pub type_of_functions-level_of_term-requires : goal.type_of_functions-level_of_term-requires
+type_of_functions-level_of_term-requires t c =
+    let bound : c.loop-flag.rest ≤ c.args.codomain = c.loop-flag.invariant.bound in (
+      omega arith,
+      (
+        omega (arith, Extends-length c.loop-flag.invariant.extends, c.requires.codomain),
+        ready-extends c.args.pool.now c.loop-flag.pool c.loop-flag.invariant.extends c.loop-flag.invariant.ready c.loop-flag.same c.loop-flag.invariant.same,
+      ),
+    )
+
+pub type_of_functions-returns-in_default-3 : goal.type_of_functions-returns-in_default-3
+type_of_functions-returns-in_default-3 t c = record {
+  extends = Extends-trans c.loop-flag.invariant.extends c.in_ok-last.ensures.extends;
+  kept = c.in_ok-last.ensures.kept;
+  context = c.truncate-in_default-3.ensures.items ∙ ap (take c.len-around.result) c.in_ok-last.ensures.context ∙ ap (λ (n : ℕ). take n c.loop-flag.context.items) (c.len-around.ensures ∙ c.args.context.now.ok.0) ∙ c.loop-flag.invariant.outer;
+  is = walk-refused c.args.context.now.items c.args.first c.args.codomain c.loop-flag.top c.loop-flag.rest c.loop-flag.invariant.ready c.loop-flag.invariant.extends c.loop-flag.invariant.walk
+      (omega (arith, c.loop-flag.invariant.bound, c.requires.codomain)) (rw c.in_default-3.is at c.in_ok-last.ensures.is);
+}
+
+pub type_of_functions-returns : goal.type_of_functions-returns
+type_of_functions-returns t c = record {
+  extends = Extends-trans (Extends-trans c.loop-flag.invariant.extends c.in_ok-last.ensures.extends) c.sort_of_pi.ensures.extends;
+  kept = IsOf-Extends c.in_ok-last.ensures.kept c.sort_of_pi.ensures.extends;
+  context = on-ok c.sort_of_pi.result _ (c.truncate-2.ensures.items ∙ ap (take c.len-around.result) c.in_ok-last.ensures.context ∙ ap (λ (n : ℕ). take n c.loop-flag.context.items) (c.len-around.ensures ∙ c.args.context.now.ok.0) ∙ c.loop-flag.invariant.outer);
+  is = subst (λ (w : Option Term). IfOk c.sort_of_pi.result (λ (o : Option ℕ). Answers c.sort_of_pi.new.pool o w))
+      (walk-last c.args.context.now.items c.args.first c.args.codomain c.loop-flag.top c.loop-flag.rest c.loop-flag.invariant.ready c.loop-flag.invariant.extends c.loop-flag.invariant.walk c.in-Some-3.last
+      (omega (arith, c.loop-flag.invariant.bound, c.requires.codomain)) (sym c.in-Some-3.is ∙ c.in_ok-last.ensures.is))
+      c.sort_of_pi.ensures.is;
+}
