@@ -3,7 +3,7 @@
 
 usage: bench/postulates.py [RUNS]
 
-For each form and each number of lines it prints the size of the text, the best time of RUNS runs (3 where it is not
+For each form and each number of lines, or of names of a group, it prints the size of the text, the best time of RUNS runs (3 where it is not
 given), the peak memory, the time of a line, and the ratio of the time to that of the size before. First comes the
 start-up: the answer to no words. The times are those of the whole process, from start to exit.
 """
@@ -29,6 +29,11 @@ def long_lines(n):
     return "postulate\n  a0 : Set\n" + "".join(f"  f{i} : {arrows}a0\n" for i in range(n))
 
 
+def one_group(n):
+    """One function type over n variables of one group."""
+    return "postulate\n  a0 : Set\n  f : (" + "x " * n + ": a0) → a0\n"
+
+
 def run(words):
     """The seconds, the peak memory in kilobytes, the status and the output of one run."""
     with tempfile.TemporaryFile() as out:
@@ -51,11 +56,14 @@ def main():
         sys.exit("elab_cli is not built: run bin/elab_cli once")
     seconds, memory, status, _ = best([], runs)
     print(f"start-up: {seconds * 1000:.1f} ms, {memory} kB, status {status}")
-    print("| form | lines | bytes | ms | peak kB | µs a line | ratio |")
+    print("| form | lines or names | bytes | ms | peak kB | µs for each | ratio |")
     print("|---|---|---|---|---|---|---|")
-    for name, make in (("`aI : Set`", short_lines), ("ten arrows", long_lines)):
+    few = (1_000, 2_500, 5_000, 10_000, 20_000)
+    many = (25_000, 50_000, 100_000, 200_000, 400_000)
+    forms = (("`aI : Set`", short_lines, few), ("ten function types", long_lines, few), ("names of one group", one_group, many))
+    for name, make, sizes in forms:
         first = before = None
-        for n in (1_000, 2_500, 5_000, 10_000, 20_000):
+        for n in sizes:
             text = make(n).encode()
             if len(text) > LIMIT:
                 print(f"| {name} | {n} | {len(text)} | beyond the limit of a text | | | |")
@@ -65,14 +73,14 @@ def main():
                 file.flush()
                 seconds, memory, status, out = best(["check", file.name], runs)
             if status != 0 or not out.startswith("complete "):
-                sys.exit(f"{name}, {n} lines: status {status}, {out!r}")
+                sys.exit(f"{name}, {n}: status {status}, {out!r}")
             line = seconds / n
             ratio = "" if before is None else f"{seconds / before:.2f}"
             print(f"| {name} | {n} | {len(text)} | {seconds * 1000:.1f} | {memory} | {line * 1e6:.2f} | {ratio} |")
             before = seconds
             if first is None:
                 first = line
-        print(f"{name}: the time of a line at the greatest size is {line / first:.2f} times that at the smallest")
+        print(f"{name}: the time for each at the greatest size is {line / first:.2f} times that at the smallest")
 
 
 if __name__ == "__main__":
