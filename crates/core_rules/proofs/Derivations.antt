@@ -59,7 +59,7 @@ nat_cons = (
   (record { sorted = record { level = 0; holds = T.pi {m = 0} {n = 0} (T.fam refl) (T.fam refl) }; as_many = refl; within = D.more {n = 0} (T.fam refl) (omega arith) D.none }, tt),
 )
 
-good_nat : Good [] (Family nat)
+pub good_nat : Good [] (Family nat)
 good_nat = D.family (record {
   shape = data_shape nat (record { fields = refl; eta = refl; coinductive = refl }) refl;
   context = T.empty;
@@ -155,7 +155,7 @@ good_pair = D.family (record {
     true_false : true ≡ false → ⊥
     true_false h = cc h
 
-no_metas : AllDecl HasNoMeta (Family nat) × (AllDecl HasNoMeta (Family vec) × AllDecl HasNoMeta (Family pair))
+pub no_metas : AllDecl HasNoMeta (Family nat) × (AllDecl HasNoMeta (Family vec) × AllDecl HasNoMeta (Family pair))
 no_metas = (
   record { params = tt; indices = tt; cons = (record { args = tt; indices = tt }, (record { args = (tt, tt); indices = tt }, tt)); fields = tt },
   (

@@ -9,6 +9,7 @@ pub mod Resolve
 pub mod ReplacedBack
 pub mod ReplacedVerdict
 pub mod FullSolutions
+pub mod Same
 pub mod Untouched
 pub mod Gather
 pub mod Fit

@@ -6,3 +6,4 @@ pub mod Typing
 pub mod Signature
 pub mod Derivations
 pub mod Heads
+pub mod Trees

@@ -25,11 +25,11 @@ plus_term t u = App Explicit (App Explicit (Def 0) t) u
 
 -- plus m n is split at m, variable 1. At zero n alone is left, and it is the answer
 abbrev pub at_zero : Branch Term
-at_zero = record { context = entry Explicit 0 nat_type ∷ []; values = zero_term ∷ Var 0 ∷ []; keep = 0 ∷ [] }
+at_zero = record { context = entry Explicit 0 nat_type ∷ []; values = Var 0 ∷ []; keep = 0 ∷ [] }
 
 -- at suc k the variables are k, which is 1, and n, which is 0
 abbrev pub at_suc : Branch Term
-at_suc = record { context = entry Explicit 0 nat_type ∷ entry Explicit 0 nat_type ∷ []; values = Var 1 ∷ Var 0 ∷ []; keep = 0 ∷ 1 ∷ [] }
+at_suc = record { context = entry Explicit 0 nat_type ∷ entry Explicit 0 nat_type ∷ []; values = Var 0 ∷ Var 1 ∷ []; keep = 0 ∷ 1 ∷ [] }
 
 abbrev pub plus_tree : Tree Term
 plus_tree = Intro (Intro (Split 1

@@ -2,10 +2,11 @@
 use Rattle.std.specs.Prelude.{◌≡◌, ◌≢◌, ℕ, ◌⊎◌, Bool, true, false, ◌&&◌, eqb, cond, List, [], ◌∷◌, ◌++◌, Option, Some, None, option_map, option_and_then, zero, suc}
 use Rattle.core_rules.specs.declared.Flag.{Flag}
 use Rattle.core_rules.specs.declared.Flag.TheVariants.{Explicit, Implicit}
-use Rattle.core_rules.specs.Term.{Term, Var, Sort, Pi, Lam, App, Def, Fam, Con}
-use Rattle.core_rules.specs.Substitution.{shift}
+use Rattle.core_rules.specs.Term.{Term, Var, Sort, Pi, Lam, App, Def, Fam, Con, IsSameTerm}
+use Rattle.core_rules.specs.Substitution.{shift, replace, instantiate}
 use Rattle.core_rules.specs.Signature.{Telescope, Signature, con_place, con_decl, fam_decl}
 use Rattle.core_rules.specs.Elimination.{Elim, Arg, Field, elims, projections}
+use Rattle.core_rules.specs.InScope.{IsAcyclic}
 use Rattle.core_rules.specs.Heads.{Solutions, Form, Blocked, Bounded, Within, Out, HeadOf}
 
 -- No carries the two head forms that differ, left first, and the names of the binders around them, outermost first
@@ -75,10 +76,10 @@ lambda _ _ = None
 abbrev pub applied : Flag → Term → List Elim → Term
 applied b h es = App b (shift (elims h es) 0 1) (Var 0)
 
--- the arguments of es, where they are as many as the entries and have their flags
+-- the arguments of es, where they are as many as the entries and no projection is among them
 abbrev pub fitting : Telescope Term → List Elim → Option (List Term)
 fitting [] [] = Some []
-fitting (e ∷ c) (Arg b u ∷ es) = cond (same_flag e.flag b) (option_map (λ us. u ∷ us) (fitting c es)) None
+fitting (e ∷ c) (Arg b u ∷ es) = option_map (λ us. u ∷ us) (fitting c es)
 fitting _ _ = None
 
 -- the fields of a value of a record that has eta
@@ -170,8 +171,24 @@ abbrev pub Decided : (Term → Term → Verdict → Type 0) → Decision → Ver
 Decided V (Now v) q = q ≡ v
 Decided V (Parts ps) q = InOrder V ps q
 
+-- the solutions of s, each with the solutions of the metavariables in it put in, as deep as its rank tells
+abbrev pub full : (s : Solutions) → IsAcyclic s → Solutions
+full s a m = option_map (instantiate (a.rank m) s) (s m)
+
+-- the solutions are acyclic, and with them put in t and u are the same term
+pub record AreSame (s : Solutions) (t u : Term) : Type 0 where
+  pub acyclic : IsAcyclic s
+  pub same : IsSameTerm (replace (full s acyclic) t) (replace (full s acyclic) u)
+
+-- q is the verdict on t and u by their head forms, where V gives the verdicts of parts
+pub record ByHeads (g : Signature Term) (s : Solutions) (fuel : ℕ) (V : Term → Term → Verdict → Type 0) (t u : Term) (q : Verdict) : Type 0 where
+  pub left : Bounded
+  pub right : Bounded
+  pub is_left : HeadOf g s t fuel left
+  pub is_right : HeadOf g s u fuel right
+  pub decided : Decided V (decide g left right) q
+
 -- q is the verdict on t and u, with this fuel for each head form, to this depth
 abbrev pub ConvOf : Signature Term → Solutions → ℕ → ℕ → Term → Term → Verdict → Type 0
 ConvOf g s fuel zero t u q = q ≡ OutOfDepth
-ConvOf g s fuel (suc depth) t u q =
-    (b : Bounded) × (c : Bounded) × HeadOf g s t fuel b × HeadOf g s u fuel c × Decided (ConvOf g s fuel depth) (decide g b c) q
+ConvOf g s fuel (suc depth) t u q = (AreSame s t u × (q ≡ Yes)) ⊎ ((AreSame s t u → ⊥) × ByHeads g s fuel (ConvOf g s fuel depth) t u q)

@@ -1,8 +1,8 @@
 -- What the laws of bounded head forms and bounded conversion speak of, and their statements.
-use Rattle.std.specs.Prelude.{◌≡◌, ◌≢◌, ◌↔◌, ℕ, ◌+◌, ◌≤◌, slice_get, true, cond, List, [], ◌∷◌, length, map, Option, Some, None, option_map, suc}
+use Rattle.std.specs.Prelude.{◌≡◌, ◌≢◌, ◌↔◌, ℕ, ◌+◌, ◌≤◌, slice_get, true, cond, List, [], ◌∷◌, length, map, Option, Some, None, suc}
 use Rattle.std.specs.List.{AllByRecursion}
-use Rattle.core_rules.specs.Term.{Term, Terms, Var, Sort, Pi, Lam, App, Def, Fam, Con, Proj, Meta, HasNoMeta}
-use Rattle.core_rules.specs.Substitution.{subst, under, value_at, put_solution, replace, instantiate}
+use Rattle.core_rules.specs.Term.{Term, Terms, Var, Sort, Pi, Lam, App, Def, Fam, Con, Proj, Meta, IsSameTerm, HasNoMeta}
+use Rattle.core_rules.specs.Substitution.{subst, under, value_at, put_solution, replace}
 use Rattle.core_rules.specs.Signature.{Branch, Tree, Leaf, Intro, Cosplit, Split, RecordSplit, Absurd, CoBranches, NoField, OnField, ConBranches, NoCon, Refuted, Goes, co_branch, Signature, tree_of, FamDecl, Decl, fam_decl}
 use Rattle.core_rules.specs.Mapped.{signature_map, AllDecl}
 use Rattle.core_rules.specs.Elimination.{Elim, Arg, Field, elims, projections}
@@ -11,7 +11,7 @@ use Rattle.core_rules.specs.Conversion.{Conv}
 use Rattle.core_rules.specs.InScope.{IsAcyclic, SignatureInScope, any_meta}
 use Rattle.core_rules.specs.Heads.{Solutions, Answer, Form, Blocked, Taken, taken, Choice, Enters, Stays, Waits, choice, Heads, Follows, After, Bounded, Within, Out, HeadOf}
 use Rattle.core_rules.specs.Steps.{Makes}
-use Rattle.core_rules.specs.Bounded.{Verdict, Yes, No, OutOfFuel, OutOfDepth, WaitsFor, same_flag, ConvOf}
+use Rattle.core_rules.specs.Bounded.{Verdict, Yes, No, OutOfFuel, OutOfDepth, WaitsFor, same_flag, full, AreSame, ConvOf}
 
 -- a term under eliminations has its answer, becomes another in so many steps, or is the call of a function with a tree
 pub data Next : Type 0 where
@@ -90,10 +90,6 @@ AfterBy g s h all k r es (Waits m) w n = (w ≡ Blocked m h all) × (n ≡ 0)
 -- no metavariable is solved
 abbrev pub no_solutions : Solutions
 no_solutions m = None
-
--- the solutions of s, each with the solutions of the metavariables in it put in, as deep as its rank tells
-abbrev pub full : (s : Solutions) → IsAcyclic s → Solutions
-full s a m = option_map (instantiate (a.rank m) s) (s m)
 
 abbrev pub replace_elim : Solutions → Elim → Elim
 replace_elim s (Arg b u) = Arg b (replace s u)
@@ -227,6 +223,9 @@ ReplacedSignature = (g : Signature Term) (f : Solutions) → ((i : ℕ) (d : Dec
 abbrev pub HeadFormConverts : Type 0
 HeadFormConverts = (g : Signature Term) (s f : Solutions) (t : Term) (es : List Elim) (w : Answer) (n : ℕ) → IsFull s f → SignatureInScope g any_meta → HasRegularTrees g → Heads g s t es w n
     → Conv (signature_map (replace f) g) (replace f (elims t es)) (replace f (shown w))
+
+abbrev pub SameByFullSolutions : Type 0
+SameByFullSolutions = (s f : Solutions) (t u : Term) → IsFull s f → IsAcyclic s → AreSame s t u ↔ IsSameTerm (replace f t) (replace f u)
 
 abbrev pub OneVerdict : Type 0
 OneVerdict = (g : Signature Term) (s : Solutions) (fuel depth : ℕ) (t u : Term) (p q : Verdict) → ConvOf g s fuel depth t u p → ConvOf g s fuel depth t u q → p ≡ q

@@ -1,5 +1,5 @@
 -- What stands of every term, telescope, clause, tree and declaration that is handed in: it is in scope, and families have their shape.
-use Rattle.std.specs.Prelude.{◌≡◌, ℕ, ◌+◌, ◌-◌, ◌<◌, true, false, [], ◌∷◌, ◌++◌, length, sum, take, slice_get, Option, Some, None, option_map, option_and_then}
+use Rattle.std.specs.Prelude.{◌≡◌, ℕ, ◌+◌, ◌-◌, ◌<◌, true, false, List, [], ◌∷◌, ◌++◌, length, sum, take, slice_get, Option, Some, None, option_map, option_and_then}
 use Rattle.std.specs.Option.{option_map_or}
 use Rattle.std.specs.List.{AllByRecursion}
 use Rattle.core_rules.specs.Term.{Term, Terms, Var, Sort, Pi, Lam, App, Def, Fam, Con, Proj, Meta, End, And, to_list, AllMetas}
@@ -129,7 +129,7 @@ module _ (g : Signature Term) (M : ℕ → ℕ → Type 0) where
     pub indices : AllByRecursion (λ t. InScope g M (n + length c.args) t) c.indices
 
 -- a declaration over the signature g: its own id stands where it is known while it is checked, in the types of constructors and fields
--- of a family and in the clauses and the tree of a function
+-- of a family and in the tree of a function. Nothing is asked of the clauses, of which typing, conversion and head forms know nothing
 module _ (g : Signature Term) (M : ℕ → ℕ → Type 0) where
   pub record FamilyInScope (d : FamDecl Term) : Type 0 where
     pub shape : HasShape d
@@ -142,11 +142,15 @@ module _ (g : Signature Term) (M : ℕ → ℕ → Type 0) where
   DeclInScope (Postulate x a) = InScope g M 0 a
   DeclInScope (Family d) = FamilyInScope d
   DeclInScope (Open x a) = InScope g M 0 a
-  DeclInScope (Function x a qs T) = InScope g M 0 a × AllByRecursion (ClauseInScope (g ++ Open x a ∷ []) M) qs × TreeInScope (g ++ Open x a ∷ []) M 0 T
+  DeclInScope (Function x a qs T) = InScope g M 0 a × TreeInScope (g ++ Open x a ∷ []) M 0 T
 
 -- each declaration over those before it
 abbrev pub SignatureInScope : Signature Term → (ℕ → ℕ → Type 0) → Type 0
 SignatureInScope g M = (i : ℕ) (d : Decl Term) → slice_get g i ≡ Some d → DeclInScope (take i g) M d
+
+-- the clauses of each function over the declarations before it, where the function is known without clauses and tree
+abbrev pub ClausesInScope : Signature Term → (ℕ → ℕ → Type 0) → Type 0
+ClausesInScope g M = (i x : ℕ) (a : Term) (qs : List (CoreClause Term)) (T : Tree Term) → slice_get g i ≡ Some (Function x a qs T) → AllByRecursion (ClauseInScope (take i g ++ Open x a ∷ []) M) qs
 
 -- the variables of t lie below n
 abbrev mutual

@@ -1,5 +1,5 @@
 -- The statements of the laws of substitution, conversion and typing.
-use Rattle.std.specs.Prelude.{◌≡◌, ℕ, ◌+◌, ◌≤◌, List, [], ◌∷◌, ◌++◌, length, map, take, drop, slice_get, Some}
+use Rattle.std.specs.Prelude.{◌≡◌, ℕ, ◌+◌, ◌≤◌, List, [], ◌∷◌, ◌++◌, length, map, take, drop}
 use Rattle.core_rules.specs.declared.Flag.{Flag}
 use Rattle.core_rules.specs.Term.{Term, Terms, Var, Sort, Pi, Lam, App, Def, Fam, Con, Proj, Meta, IsSameTerm, HasNoMeta}
 use Rattle.core_rules.specs.Substitution.{over, shift, shift_var, subst, under, env_var, value_at}
@@ -171,6 +171,3 @@ DerivableExtended = (g : Signature Term) (d : Decl Term) → Derivable g → Goo
 
 abbrev pub DerivableTaken : Type 0
 DerivableTaken = (g : Signature Term) (n : ℕ) → Derivable g → Derivable (take n g)
-
-abbrev pub NoFunctionDerivable : Type 0
-NoFunctionDerivable = (g : Signature Term) (i x : ℕ) (a : Term) (qs : List (CoreClause Term)) (T : Tree Term) → Derivable g → slice_get g i ≡ Some (Function x a qs T) → ⊥

@@ -9,6 +9,7 @@ pub mod Elimination
 pub mod Run
 pub mod Conversion
 pub mod Typing
+pub mod Unification
 pub mod TypedTree
 pub mod Derivable
 pub mod Inversion
@@ -19,3 +20,5 @@ pub mod Bounded
 pub mod Steps
 pub mod BoundedLaws
 pub mod Addition
+pub mod TreeLaws
+pub mod VectorHead

@@ -1,7 +1,7 @@
 //! Laws of bounded head forms and bounded conversion. Each is the contract of a function that does nothing.
 //! The statements stand in `specs/BoundedLaws.antt`, under the same names.
 
-ghost use Rattle.core_rules.specs.BoundedLaws.{OneHeadForm, OneBoundedHeadForm, MoreFuel, NextOfTerm, NextOfTree, NextOfChoice, StepsAreNeeded, OutMakesMore, BoundedHeadFormStands, BlockedByUnsolved, FullSolutions, ReplacedHeadForm, ReplacedHeadFormBack, ReplacedBoundedHeadForm, ReplacedVerdict, NothingToReplace, ReplacedSignature, HeadFormConverts, OneVerdict, VerdictStands, MoreFuelForVerdict, MoreDepth, YesConverts};
+ghost use Rattle.core_rules.specs.BoundedLaws.{OneHeadForm, OneBoundedHeadForm, MoreFuel, NextOfTerm, NextOfTree, NextOfChoice, StepsAreNeeded, OutMakesMore, BoundedHeadFormStands, BlockedByUnsolved, FullSolutions, ReplacedHeadForm, ReplacedHeadFormBack, ReplacedBoundedHeadForm, ReplacedVerdict, NothingToReplace, ReplacedSignature, HeadFormConverts, SameByFullSolutions, OneVerdict, VerdictStands, MoreFuelForVerdict, MoreDepth, YesConverts};
 
 /// A term under eliminations comes to one answer, in one number of steps.
 pub fn one_head_form()
@@ -95,6 +95,11 @@ pub fn replaced_signature()
 /// metavariables replaced.
 pub fn head_form_converts()
     ensures { HeadFormConverts }
+{}
+
+/// Any full solutions tell whether two terms are the same with acyclic solutions put in.
+pub fn same_by_full_solutions()
+    ensures { SameByFullSolutions }
 {}
 
 /// Two terms have one verdict with one fuel, to one depth.

@@ -1,7 +1,7 @@
 //! Laws of the definitions. Each is the contract of a function that does nothing, on which a crate above, or a reader, can rest.
 //! The statements stand in `specs/Laws.antt`, under the same names.
 
-ghost use Rattle.core_rules.specs.Laws.{TraversalIdentity, TraversalComposition, TraversalExchange, ShiftAfterShift, ShiftsExchange, SubstitutionInShifted, ShiftOfSubstitution, OuterShiftOfSubstitution, SubstitutionAfterSubstitution, ShiftOfEnvironment, SubstitutionOfEnvironment, EnvironmentOfEnvironment, EnvironmentInShifted, EnvironmentInSubstituted, ChangeOfShifted, ChangeOfSubstituted, ChangeOfEnvironment, OneRun, SameTermsConvert, ConversionUnderEliminations, ConversionOfShifted, ConversionOfSubstituted, ConversionOfEnvironments, Weakening, TypingOfSubstituted, TypingOfEnvironment, ShapeInScope, RunOfShifted, RunOfSubstituted, TypedInScope, DerivableInScope, InversionOfVariable, InversionOfSort, InversionOfPi, InversionOfLambda, InversionOfApplication, InversionOfDefinition, InversionOfFamily, InversionOfConstructor, InversionOfProjection, NoTypeOfMetavariable, ConversionGrows, TypingGrows, ConversionOfClosed, TypingOfClosed, DerivableExtended, DerivableTaken, NoFunctionDerivable};
+ghost use Rattle.core_rules.specs.Laws.{TraversalIdentity, TraversalComposition, TraversalExchange, ShiftAfterShift, ShiftsExchange, SubstitutionInShifted, ShiftOfSubstitution, OuterShiftOfSubstitution, SubstitutionAfterSubstitution, ShiftOfEnvironment, SubstitutionOfEnvironment, EnvironmentOfEnvironment, EnvironmentInShifted, EnvironmentInSubstituted, ChangeOfShifted, ChangeOfSubstituted, ChangeOfEnvironment, OneRun, SameTermsConvert, ConversionUnderEliminations, ConversionOfShifted, ConversionOfSubstituted, ConversionOfEnvironments, Weakening, TypingOfSubstituted, TypingOfEnvironment, ShapeInScope, RunOfShifted, RunOfSubstituted, TypedInScope, DerivableInScope, InversionOfVariable, InversionOfSort, InversionOfPi, InversionOfLambda, InversionOfApplication, InversionOfDefinition, InversionOfFamily, InversionOfConstructor, InversionOfProjection, NoTypeOfMetavariable, ConversionGrows, TypingGrows, ConversionOfClosed, TypingOfClosed, DerivableExtended, DerivableTaken};
 
 /// A change that leaves each variable as it is leaves each term as it is.
 pub fn traversal_identity()
@@ -236,9 +236,4 @@ pub fn derivable_extended()
 /// The first declarations of a derivable signature are one.
 pub fn derivable_taken()
     ensures { DerivableTaken }
-{}
-
-/// No signature with a function is derivable, since no tree is typed.
-pub fn no_function_derivable()
-    ensures { NoFunctionDerivable }
 {}

@@ -6,9 +6,10 @@ pub mod bounded_examples;
 pub mod bounded_laws;
 pub mod examples;
 pub mod laws;
+pub mod tree_laws;
 
 /// How an argument is given: written out, or left to be found.
-#[derive(Clone, Copy, Debug, PartialEq, Eq)]
+#[derive(Clone, Copy, Debug, PartialEq, Eq, Hash)]
 pub enum Flag {
     Explicit,
     Implicit,

@@ -35,7 +35,7 @@ module _ (f : ℕ → ℕ → Term) (l : IsLifted f) where
   over-record g d k n ps t is = over-elims f d (Con k ps) (args is.con.args (projections g n t))
       ∙ ap (λ es. elims (Con k (over_all f d ps)) es) (args-over f d is.con.args (projections g n t) ∙ ap (args is.con.args) (projections-over f d g n t))
 
-  over-argument : (g : Signature Term) (d k : ℕ) (t u : Term) → IsArgument g k t u → IsArgument g k (over f d t) (over f d u)
+  pub over-argument : (g : Signature Term) (d k : ℕ) (t u : Term) → IsArgument g k t u → IsArgument g k (over f d t) (over f d u)
   over-argument g d k t u is = record {
     fam = is.fam;
     at = is.at;

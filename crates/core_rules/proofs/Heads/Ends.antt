@@ -13,7 +13,7 @@ use Rattle.core_rules.specs.Heads.{Solutions, Answer, Form, Blocked, Taken, take
 use Rattle.core_rules.specs.Bounded.{same_flag}
 use Rattle.core_rules.specs.Steps as M
 use Rattle.core_rules.specs.Steps.{Makes, MakesIn}
-use Rattle.core_rules.specs.BoundedLaws.{full}
+use Rattle.core_rules.specs.Bounded.{full}
 use Rattle.core_rules.proofs.Heads.Next.{same_flag-true, same_flag-false}
 use Rattle.core_rules.proofs.Heads.Sound.{entered, by_full_con}
 use Rattle.core_rules.proofs.Heads.Resolve.{NotSolved, resolve}

@@ -5,11 +5,12 @@ use Rattle.core_rules.specs.Term.{Term, Terms, Var, Sort, Pi, Lam, App, Def, Fam
 use Rattle.core_rules.specs.Substitution.{put_solution, replace, replace_all, instantiate}
 use Rattle.core_rules.specs.InScope.{IsAcyclic}
 use Rattle.core_rules.specs.Heads.{Solutions}
-use Rattle.core_rules.specs.BoundedLaws.{no_solutions, full, IsFull}
+use Rattle.core_rules.specs.Bounded.{full}
+use Rattle.core_rules.specs.BoundedLaws.{no_solutions, IsFull}
 
 module _ (P Q : ℕ → Type 0) (h : (k : ℕ) → P k → Q k) where
   mutual
-    weaker : (t : Term) → AllMetas P t → AllMetas Q t
+    pub weaker : (t : Term) → AllMetas P t → AllMetas Q t
     weaker (Var i) p = tt
     weaker (Sort n) p = tt
     weaker (Pi b x a t) p = (weaker a p.0, weaker t p.1)
@@ -28,7 +29,7 @@ module _ (P Q : ℕ → Type 0) (h : (k : ℕ) → P k → Q k) where
 -- solutions that agree on the metavariables of a term
 module _ (r s : Solutions) where
   mutual
-    replace_alike : (t : Term) → AllMetas (λ k. r k ≡ s k) t → replace r t ≡ replace s t
+    pub replace_alike : (t : Term) → AllMetas (λ k. r k ≡ s k) t → replace r t ≡ replace s t
     replace_alike (Var i) p = refl
     replace_alike (Sort n) p = refl
     replace_alike (Pi b x a t) p = cc (replace_alike a p.0, replace_alike t p.1)

@@ -8,11 +8,12 @@ use Rattle.core_rules.specs.Elimination.{Elim}
 use Rattle.core_rules.specs.Run.{spread, kept}
 use Rattle.core_rules.specs.InScope.{IsAcyclic}
 use Rattle.core_rules.specs.Heads.{Solutions, Answer, Choice, Enters, choice, Heads, form, argument, projection, beta, project, replaced, unsolved, call, Follows, leaf, intro, cosplit, split, record_split, stuck, After, enters, stays, waits, Bounded, Within, Out, HeadOf}
-use Rattle.core_rules.specs.Bounded.{Verdict, Yes, No, OutOfFuel, OutOfDepth, WaitsFor, Part, Pair, Decision, Now, Parts, decide, below, InOrder, Decided, ConvOf}
+use Rattle.core_rules.specs.Bounded.{Verdict, Yes, No, OutOfFuel, OutOfDepth, WaitsFor, Part, Pair, Decision, Now, Parts, decide, below, InOrder, Decided, AreSame, ByHeads, ConvOf}
 use Rattle.core_rules.specs.Steps as M
 use Rattle.core_rules.specs.Steps.{Makes, MakesIn}
 use Rattle.core_rules.proofs.Heads.OneAnswer.{one_some, Agree, heads_one}
 use Rattle.core_rules.proofs.Heads.Ends.{ends}
+use Rattle.core_rules.proofs.Heads.Same.{are_same_or}
 
 -- a split that enters a branch follows it
 entered_follows : {g : Signature Term} {s : Solutions} {h : Term} {all es : List Elim} {k : ℕ} {r us : List Term} {c : Choice} {w : Answer} {n : ℕ} {b : Branch Term} {T : Tree Term} → c ≡ Enters b T us → After g s h all k r es c w n → Follows g s h all T (kept b (spread k us r)) es w n
@@ -91,10 +92,17 @@ module _ (V : Term → Term → Verdict → Type 0) (v : (t u : Term) → (q : V
   decided_stands (Now q) = (q, refl)
   decided_stands (Parts ps) = in_order_stands ps
 
-pub verdict_stands : (g : Signature Term) (s : Solutions) (fuel depth : ℕ) (t u : Term) → IsAcyclic s → (q : Verdict) × ConvOf g s fuel depth t u q
-verdict_stands g s fuel zero t u a = (OutOfDepth, refl)
-verdict_stands g s fuel (suc depth) t u a =
+by_heads_stands : (g : Signature Term) (s : Solutions) (fuel : ℕ) (V : Term → Term → Verdict → Type 0) → ((t u : Term) → (q : Verdict) × V t u q) → (t u : Term) → IsAcyclic s → (q : Verdict) × ByHeads g s fuel V t u q
+by_heads_stands g s fuel V v t u a =
     let b = head_of_stands g s t fuel a in
     let c = head_of_stands g s u fuel a in
-    let d = decided_stands (ConvOf g s fuel depth) (λ t u. verdict_stands g s fuel depth t u a) (decide g b.0 c.0) in
-    (d.0, (b.0, c.0, b.1, c.1, d.1))
+    let d = decided_stands V v (decide g b.0 c.0) in
+    (d.0, record { left = b.0; right = c.0; is_left = b.1; is_right = c.1; decided = d.1 })
+
+pub verdict_stands : (g : Signature Term) (s : Solutions) (fuel depth : ℕ) (t u : Term) → IsAcyclic s → (q : Verdict) × ConvOf g s fuel depth t u q
+verdict_stands g s fuel zero t u a = (OutOfDepth, refl)
+verdict_stands g s fuel (suc depth) t u a = by_same (are_same_or s a t u) (by_heads_stands g s fuel (ConvOf g s fuel depth) (λ t u. verdict_stands g s fuel depth t u a) t u a)
+  where
+    by_same : AreSame s t u ⊎ (AreSame s t u → ⊥) → (q : Verdict) × ByHeads g s fuel (ConvOf g s fuel depth) t u q → (q : Verdict) × ConvOf g s fuel (suc depth) t u q
+    by_same (inl e) h = (Yes, inl (e, refl))
+    by_same (inr n) h = (h.0, inr (n, h.1))

@@ -3,7 +3,7 @@ use Rattle.std.proofs.Common.{◌≡◌, ◌≢◌, ℕ, zero, suc, ◌+◌, ◌
 use Rattle.core_rules.specs.Term.{Term}
 use Rattle.core_rules.specs.Signature.{Signature}
 use Rattle.core_rules.specs.Heads.{Solutions, Answer, Bounded, Within, Out, HeadOf}
-use Rattle.core_rules.specs.Bounded.{Verdict, Yes, OutOfFuel, OutOfDepth, Part, Pair, Decision, Now, Parts, decide, below, InOrder, Decided, ConvOf}
+use Rattle.core_rules.specs.Bounded.{Verdict, Yes, OutOfFuel, OutOfDepth, Part, Pair, Decision, Now, Parts, decide, below, InOrder, Decided, ByHeads, ConvOf}
 use Rattle.core_rules.proofs.Heads.OneAnswer.{heads_one}
 
 -- one bounded head form
@@ -32,13 +32,18 @@ decided_one : (V : Term → Term → Verdict → Type 0) → IsOne V → (D : De
 decided_one V o (Now v) q p h k = h ∙ sym k
 decided_one V o (Parts ps) q p h k = in_order_one V o ps q p h k
 
+by_heads_one : (g : Signature Term) (s : Solutions) (fuel : ℕ) (V : Term → Term → Verdict → Type 0) → IsOne V → (t u : Term) (q p : Verdict) → ByHeads g s fuel V t u q → ByHeads g s fuel V t u p → q ≡ p
+by_heads_one g s fuel V o t u q p h k =
+    let b = head_of_one g s t fuel h.left k.left h.is_left k.is_left in
+    let c = head_of_one g s u fuel h.right k.right h.is_right k.is_right in
+    decided_one V o (decide g h.left h.right) q p h.decided (subst₂ (λ x y. Decided V (decide g x y) p) (sym b) (sym c) k.decided)
+
 pub conv_of_one : (g : Signature Term) (s : Solutions) (fuel depth : ℕ) (t u : Term) (q p : Verdict) → ConvOf g s fuel depth t u q → ConvOf g s fuel depth t u p → q ≡ p
 conv_of_one g s fuel zero t u q p h k = h ∙ sym k
-conv_of_one g s fuel (suc depth) t u q p h k =
-    let b = head_of_one g s t fuel h.0 k.0 h.2 k.2 in
-    let c = head_of_one g s u fuel h.1 k.1 h.3 k.3 in
-    let V = ConvOf g s fuel depth in
-    decided_one V (record { by = conv_of_one g s fuel depth }) (decide g h.0 h.1) q p h.4 (subst₂ (λ x y. Decided V (decide g x y) p) (sym b) (sym c) k.4)
+conv_of_one g s fuel (suc depth) t u q p (inl h) (inl k) = h.1 ∙ sym k.1
+conv_of_one g s fuel (suc depth) t u q p (inl h) (inr k) = absurd (k.0 h.0)
+conv_of_one g s fuel (suc depth) t u q p (inr h) (inl k) = absurd (h.0 k.0)
+conv_of_one g s fuel (suc depth) t u q p (inr h) (inr k) = by_heads_one g s fuel (ConvOf g s fuel depth) (record { by = conv_of_one g s fuel depth }) t u q p h.1 k.1
 
 -- each verdict of V but OutOfDepth is one of W
 record Grows (V W : Term → Term → Verdict → Type 0) : Type 0 where
@@ -58,8 +63,10 @@ decided_grows V W o (Parts ps) q n h = in_order_grows V W o ps q n h
 
 conv_of_next : (g : Signature Term) (s : Solutions) (fuel depth : ℕ) (t u : Term) (q : Verdict) → q ≢ OutOfDepth → ConvOf g s fuel depth t u q → ConvOf g s fuel (suc depth) t u q
 conv_of_next g s fuel zero t u q n h = absurd (n h)
-conv_of_next g s fuel (suc depth) t u q n h =
-    (h.0, h.1, h.2, h.3, decided_grows (ConvOf g s fuel depth) (ConvOf g s fuel (suc depth)) (record { by = conv_of_next g s fuel depth }) (decide g h.0 h.1) q n h.4)
+conv_of_next g s fuel (suc depth) t u q n (inl h) = inl h
+conv_of_next g s fuel (suc depth) t u q n (inr h) = let d = h.1 in
+    let grown = decided_grows (ConvOf g s fuel depth) (ConvOf g s fuel (suc depth)) (record { by = conv_of_next g s fuel depth }) (decide g d.left d.right) q n d.decided in
+    inr (h.0, record { left = d.left; right = d.right; is_left = d.is_left; is_right = d.is_right; decided = grown })
 
 conv_of_deeper_by : (g : Signature Term) (s : Solutions) (fuel depth k : ℕ) (t u : Term) (q : Verdict) → q ≢ OutOfDepth → ConvOf g s fuel depth t u q → ConvOf g s fuel (depth + k) t u q
 conv_of_deeper_by g s fuel depth zero t u q n h = transport (λ d. ConvOf g s fuel d t u q) (sym (add-zero depth)) h
@@ -85,10 +92,17 @@ decided_lasts V W o (Parts ps) q n h = in_order_lasts V W o ps q n h
 -- a verdict that is not for want of fuel is the verdict with more
 pub conv_of_more : (g : Signature Term) (s : Solutions) (fuel more depth : ℕ) (t u : Term) (q : Verdict) → fuel ≤ more → q ≢ OutOfFuel → ConvOf g s fuel depth t u q → ConvOf g s more depth t u q
 conv_of_more g s fuel more zero t u q le n h = h
-conv_of_more g s fuel more (suc depth) t u q le n h = by_heads (record { by = λ t u q n h. conv_of_more g s fuel more depth t u q le n h }) h.0 h.1 h.2 h.3 h.4
+conv_of_more g s fuel more (suc depth) t u q le n (inl h) = inl h
+conv_of_more g s fuel more (suc depth) t u q le n (inr h) =
+    inr (h.0, by_heads (record { by = λ t u q n h. conv_of_more g s fuel more depth t u q le n h }) h.1.left h.1.right h.1.is_left h.1.is_right h.1.decided)
   where
-    by_heads : Lasts (ConvOf g s fuel depth) (ConvOf g s more depth) → (b c : Bounded) → HeadOf g s t fuel b → HeadOf g s u fuel c → Decided (ConvOf g s fuel depth) (decide g b c) q → ConvOf g s more (suc depth) t u q
+    by_heads : Lasts (ConvOf g s fuel depth) (ConvOf g s more depth) → (b c : Bounded) → HeadOf g s t fuel b → HeadOf g s u fuel c → Decided (ConvOf g s fuel depth) (decide g b c) q → ByHeads g s more (ConvOf g s more depth) t u q
     by_heads o Out c x y d = absurd (n d)
     by_heads o (Within v k) Out x y d = absurd (n d)
-    by_heads o (Within v k) (Within w l) x y d =
-        (Within v k, Within w l, head_of_more g s t fuel more v k le x, head_of_more g s u fuel more w l le y, decided_lasts (ConvOf g s fuel depth) (ConvOf g s more depth) o (decide g (Within v k) (Within w l)) q n d)
+    by_heads o (Within v k) (Within w l) x y d = record {
+      left = Within v k;
+      right = Within w l;
+      is_left = head_of_more g s t fuel more v k le x;
+      is_right = head_of_more g s u fuel more w l le y;
+      decided = decided_lasts (ConvOf g s fuel depth) (ConvOf g s more depth) o (decide g (Within v k) (Within w l)) q n d;
+    }

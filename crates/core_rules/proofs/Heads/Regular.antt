@@ -8,6 +8,7 @@ use Rattle.std.proofs.lemmas.List.{length-map, take-append-drop}
 use Rattle.core_rules.specs.Term.{Term}
 use Rattle.core_rules.specs.Signature.{Tree, Leaf, Intro, Cosplit, Split, RecordSplit, Absurd, CoBranches, NoField, OnField, ConBranches, NoCon, Refuted, Goes, ConDecl, FamDecl, CoreClause, Decl, Postulate, Family, Open, Function, Signature, fams, decl_tree, def_decl, tree_of, fam_decl, numbers, places, con_counts, con_place, con_decl, fields_of}
 use Rattle.core_rules.specs.Run.{takes}
+use Rattle.core_rules.specs.Conversion.{IsEtaCon}
 use Rattle.core_rules.specs.InScope.{field_count, arg_count, TreeInScope, CoBranchesInScope, ConBranchesInScope, IsRecordShape, FamiliesHaveShape, SignatureInScope}
 use Rattle.core_rules.specs.BoundedLaws.{HasEta, IsRegular, AreRegular, BranchesAreRegular, HasRegularTrees}
 use Rattle.core_rules.proofs.Signature.Places.{length-numbers, places_at, length-fields_of, def_stands, fam_stands}
@@ -73,6 +74,14 @@ eta_record g sh d e = by_kind e.decl.is_record refl
     by_kind true t = record_shape ((sh d e.decl e.is_decl).of_record t) t
     by_kind false t = let x = ((sh d e.decl e.is_decl).of_data t).eta in absurd cc
 
+-- a record's constructor has as many arguments as the record has fields
+pub eta_fields : (g : Signature Term) → FamiliesHaveShape g → (k d : ℕ) (is : IsEtaCon g k d) → length is.con.args ≡ length (fields_of g d)
+eta_fields g sh k d is =
+    let e = eta_record g sh d (record { decl = is.decl; is_decl = is.is_decl; eta = is.eta }) in
+    let at = option_and_then (λ p. option_and_then (λ d. slice_get d.cons p.1) (fam_decl g p.0)) in
+    let own : is.con ≡ e.is.con = one_some (sym is.is_con ∙ (ap at (is.place ∙ sym e.is.place) ∙ e.is.is_con)) in
+    ap (λ c. length c.args) own ∙ e.as_many
+
 -- the signature p, as it is where a function is checked, and as it goes on
 module _ (p rest : Signature Term) (x : ℕ) (a : Term) where
   abbrev opened : Signature Term
@@ -132,7 +141,7 @@ module _ (p rest : Signature Term) (x : ℕ) (a : Term) where
         branches_fit n bs s.3 r.2,
       )
 
-function_stands : (g : Signature Term) (f : ℕ) (T : Tree Term) → tree_of g f ≡ Some T → (i : ℕ) × (x : ℕ) × (a : Term) × (qs : List (CoreClause Term)) × (slice_get g i ≡ Some (Function x a qs T))
+pub function_stands : (g : Signature Term) (f : ℕ) (T : Tree Term) → tree_of g f ≡ Some T → (i : ℕ) × (x : ℕ) × (a : Term) × (qs : List (CoreClause Term)) × (slice_get g i ≡ Some (Function x a qs T))
 function_stands g f T e = by_decl (def_decl g f) refl e
   where
     by_decl : (o : Option (Decl Term)) → def_decl g f ≡ o → option_and_then decl_tree o ≡ Some T → (i : ℕ) × (x : ℕ) × (a : Term) × (qs : List (CoreClause Term)) × (slice_get g i ≡ Some (Function x a qs T))
@@ -142,7 +151,7 @@ function_stands g f T e = by_decl (def_decl g f) refl e
     by_decl (Some (Open x a)) d h = absurd cc
     by_decl (Some (Function x a qs S)) d h = let s = def_stands g f (Function x a qs S) d in (s.place, x, a, qs, s.is ∙ ap (λ T. Some (Function x a qs T)) (one_some h))
 
-shapes : (g : Signature Term) (M : ℕ → ℕ → Type 0) → SignatureInScope g M → FamiliesHaveShape g
+pub shapes : (g : Signature Term) (M : ℕ → ℕ → Type 0) → SignatureInScope g M → FamiliesHaveShape g
 shapes g M s d decl e = let p = fam_stands g d decl e in (s p.place (Family decl) p.is).shape
 
 pub regular_fit : (g : Signature Term) (M : ℕ → ℕ → Type 0) → SignatureInScope g M → HasRegularTrees g → HasFitTrees g
@@ -152,4 +161,4 @@ regular_fit g M s r f T e =
     let rest = drop d.0 g in
     let whole : p ++ rest ≡ g = take-append-drop d.0 g in
     let sh = transport FamiliesHaveShape (sym whole) (shapes g M s) in
-    transport (λ g. IsFit g 0 T) whole (fit p rest d.1 d.2 M sh 0 T (s d.0 (Function d.1 d.2 d.3 T) d.4).2 (transport (λ g. IsRegular g T) (sym whole) (r f T e)))
+    transport (λ g. IsFit g 0 T) whole (fit p rest d.1 d.2 M sh 0 T (s d.0 (Function d.1 d.2 d.3 T) d.4).1 (transport (λ g. IsRegular g T) (sym whole) (r f T e)))

@@ -9,12 +9,13 @@ use Rattle.core_rules.specs.Mapped.{entry_map, con_map, fam_map}
 use Rattle.core_rules.specs.Elimination.{Elim, Arg, Field, elims, projections}
 use Rattle.core_rules.specs.InScope.{IsAcyclic}
 use Rattle.core_rules.specs.Heads.{Solutions, Form, Blocked, Bounded, Within, Out, HeadOf}
-use Rattle.core_rules.specs.Bounded.{Verdict, Yes, No, OutOfFuel, OutOfDepth, WaitsFor, Part, Pair, Decision, Now, Parts, same_flag, with_part, argument_parts, term_parts, Cut, cut_more, last_field, Lambda, lambda, applied, fitting, RecordValue, record_value, Kind, Value, Constructor, Neither, con_kind, kind, parts_or, if_one, same_heads, by_field, by_kind, by_lambda, decide, below, InOrder, Decided, ConvOf}
+use Rattle.core_rules.specs.Bounded.{Verdict, Yes, No, OutOfFuel, OutOfDepth, WaitsFor, Part, Pair, Decision, Now, Parts, same_flag, with_part, argument_parts, term_parts, Cut, cut_more, last_field, Lambda, lambda, applied, fitting, RecordValue, record_value, Kind, Value, Constructor, Neither, con_kind, kind, parts_or, if_one, same_heads, by_field, by_kind, by_lambda, decide, below, InOrder, Decided, ByHeads, ConvOf}
 use Rattle.core_rules.specs.BoundedLaws.{no_solutions, replace_elim, replace_elims, replace_bounded, replace_verdict, IsFull}
 use Rattle.core_rules.proofs.Heads.Mapped.{con_place-map, con_decl-map, fam_decl-map, fields_of-map}
 use Rattle.core_rules.proofs.Heads.Replace.{replace-shift}
 use Rattle.core_rules.proofs.Heads.Replaced.{image, IsAnswer, NoMeta, replace-elims, map-projections, heads_answer, heads_image}
 use Rattle.core_rules.proofs.Heads.ReplacedBack.{heads_back}
+use Rattle.core_rules.proofs.Heads.Same.{same_image, same_image_back}
 
 -- the steps of the search for a value of a record that has eta
 abbrev eta_at : ℕ × ℕ → Bool → Option (List Term) → Option RecordValue
@@ -76,14 +77,12 @@ module _ (f : Solutions) where
   applied-image : (b : Flag) (h : Term) (es : List Elim) → applied b (replace f h) (replace_elims f es) ≡ replace f (applied b h es)
   applied-image b h es = ap (λ t. App b t (Var 0)) (ap (λ t. shift t 0 1) (sym (replace-elims f h es)) ∙ sym (replace-shift f (elims h es) 0 1))
 
-  fitting-image : (c : Telescope Term) (es : List Elim) → fitting (map (entry_map (replace f)) c) (replace_elims f es) ≡ option_map (map (replace f)) (fitting c es)
+  pub fitting-image : (c : Telescope Term) (es : List Elim) → fitting (map (entry_map (replace f)) c) (replace_elims f es) ≡ option_map (map (replace f)) (fitting c es)
   fitting-image [] [] = refl
   fitting-image [] (d ∷ es) = refl
   fitting-image (x ∷ c) [] = refl
   fitting-image (x ∷ c) (Field i ∷ es) = refl
-  fitting-image (x ∷ c) (Arg b u ∷ es) =
-      ap (λ o. cond (same_flag x.flag b) (option_map (λ us. replace f u ∷ us) o) None) (fitting-image c es)
-      ∙ (elim (same_flag x.flag b) as (λ o. cond o (option_map (λ us. replace f u ∷ us) (option_map (map (replace f)) (fitting c es))) None ≡ option_map (map (replace f)) (cond o (option_map (λ us. u ∷ us) (fitting c es)) None)) [ true ↦ consed (fitting c es) | false ↦ refl ])
+  fitting-image (x ∷ c) (Arg b u ∷ es) = ap (option_map (λ us. replace f u ∷ us)) (fitting-image c es) ∙ consed (fitting c es)
     where
       consed : (o : Option (List Term)) → option_map (λ us. replace f u ∷ us) (option_map (map (replace f)) o) ≡ option_map (map (replace f)) (option_map (λ us. u ∷ us) o)
       consed None = refl
@@ -251,10 +250,20 @@ module _ (g : Signature Term) (s f : Solutions) (x : IsFull s f) (a : IsAcyclic 
   forms t fuel (Within w n) h = heads_answer h.0
   forms t fuel Out h = tt
 
+  by_heads_image : (fuel : ℕ) (V W : Term → Term → Verdict → Type 0) → Maps f V W → (t u : Term) (q : Verdict) → ByHeads g s fuel V t u q → ByHeads (image f g) no_solutions fuel W (replace f t) (replace f u) (replace_verdict f q)
+  by_heads_image fuel V W o t u q h =
+      let d = decided_maps f V W o (decide g h.left h.right) q h.decided in
+      let e = decide-image f g h.left h.right (forms t fuel h.left h.is_left) (forms u fuel h.right h.is_right) in
+      record {
+        left = replace_bounded f h.left;
+        right = replace_bounded f h.right;
+        is_left = head_of_image t fuel h.left h.is_left;
+        is_right = head_of_image u fuel h.right h.is_right;
+        decided = transport (λ D. Decided W D (replace_verdict f q)) (sym e) d;
+      }
+
   pub conv_of_image : (fuel depth : ℕ) (t u : Term) (q : Verdict) → ConvOf g s fuel depth t u q → ConvOf (image f g) no_solutions fuel depth (replace f t) (replace f u) (replace_verdict f q)
   conv_of_image fuel zero t u q h = ap (replace_verdict f) h
-  conv_of_image fuel (suc depth) t u q h =
-      let W = ConvOf (image f g) no_solutions fuel depth in
-      let d = decided_maps f (ConvOf g s fuel depth) W (record { by = conv_of_image fuel depth }) (decide g h.0 h.1) q h.4 in
-      let e = decide-image f g h.0 h.1 (forms t fuel h.0 h.2) (forms u fuel h.1 h.3) in
-      (replace_bounded f h.0, replace_bounded f h.1, head_of_image t fuel h.0 h.2, head_of_image u fuel h.1 h.3, transport (λ D. Decided W D (replace_verdict f q)) (sym e) d)
+  conv_of_image fuel (suc depth) t u q (inl h) = inl (same_image s f x a t u h.0, ap (replace_verdict f) h.1)
+  conv_of_image fuel (suc depth) t u q (inr h) =
+      inr (λ k. h.0 (same_image_back s f x a t u k), by_heads_image fuel (ConvOf g s fuel depth) (ConvOf (image f g) no_solutions fuel depth) (record { by = conv_of_image fuel depth }) t u q h.1)

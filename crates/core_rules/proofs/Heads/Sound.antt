@@ -23,7 +23,7 @@ use Rattle.core_rules.proofs.Heads.Gather as E
 use Rattle.core_rules.proofs.Heads.Gather.{ConvEach, ConvElims, each_same, elims_same, conv-elims_all, each_length, gather, restore}
 
 -- further arguments of a constructor
-con_app-more : (t : Term) (us vs : List Term) (c : ConApp) → con_app t us ≡ Some c → con_app t (us ++ vs) ≡ Some (record { con = c.con; params = c.params; args = c.args ++ vs })
+pub con_app-more : (t : Term) (us vs : List Term) (c : ConApp) → con_app t us ≡ Some c → con_app t (us ++ vs) ≡ Some (record { con = c.con; params = c.params; args = c.args ++ vs })
 con_app-more (App b t u) us vs c e = con_app-more t (u ∷ us) vs c e
 con_app-more (Con k ps) us vs c e = let x = one_some e in ap (λ d. Some (record { con = d.con; params = d.params; args = d.args ++ vs })) x
 con_app-more (Var i) us vs c e = absurd cc
@@ -35,7 +35,7 @@ con_app-more (Fam d) us vs c e = absurd cc
 con_app-more (Proj f t) us vs c e = absurd cc
 con_app-more (Meta m ts) us vs c e = absurd cc
 
-eqb_same : (n : ℕ) → eqb n n ≡ true
+pub eqb_same : (n : ℕ) → eqb n n ≡ true
 eqb_same n = grind (arith, common_steps)
 
 pub and_true : (a b : Bool) → a && b ≡ true → (a ≡ true) × (b ≡ true)
@@ -47,14 +47,14 @@ pub cond_some : {A : Type 0} (b : Bool) (o : Option A) (x : A) → cond b o None
 cond_some true o x e = (refl, e)
 cond_some false o x e = absurd cc
 
-is_first_place : (g : Signature Term) (k d : ℕ) → is_first g k d ≡ true → con_place g k ≡ Some (d, 0)
+pub is_first_place : (g : Signature Term) (k d : ℕ) → is_first g k d ≡ true → con_place g k ≡ Some (d, 0)
 is_first_place g k d = by_place (con_place g k)
   where
     by_place : (o : Option (ℕ × ℕ)) → option_map_or (λ p. eqb p.0 d && eqb p.1 0) o false ≡ true → o ≡ Some (d, 0)
     by_place None e = absurd cc
     by_place (Some p) e = let h = and_true (eqb p.0 d) (eqb p.1 0) e in ap₂ (λ a b. Some (a, b)) (eqb-true p.0 d h.0) (eqb-true p.1 0 h.1)
 
-full_con_by : (g : Signature Term) (t : Term) (c : ConApp) → con_app t [] ≡ Some c → takes g c.con (length c.args) ≡ true → full_con g t ≡ Some c
+pub full_con_by : (g : Signature Term) (t : Term) (c : ConApp) → con_app t [] ≡ Some c → takes g c.con (length c.args) ≡ true → full_con g t ≡ Some c
 full_con_by g t c e h = ap (option_and_then (λ s. cond (takes g s.con (length s.args)) (Some s) None)) e ∙ ap (λ b. cond b (Some c) None) h
 
 pub by_full_con : (g : Signature Term) (t : Term) (c : ConApp) → full_con g t ≡ Some c → (con_app t [] ≡ Some c) × (takes g c.con (length c.args) ≡ true)
@@ -129,7 +129,7 @@ refill g t c us e h =
     at_none : (s : Term) (ws : List Term) (d : ConApp) → con_app s ws ≡ Some d → ConvEach g [] ws → con_app s [] ≡ Some d
     at_none s _ d i E.none = i
 
-con_app-args : (k : ℕ) (ps : Terms) (t : Term) (vs : List Term) (es : Telescope Term) (us : List Term) → length us ≡ length es → con_app t [] ≡ Some (record { con = k; params = ps; args = vs })
+pub con_app-args : (k : ℕ) (ps : Terms) (t : Term) (vs : List Term) (es : Telescope Term) (us : List Term) → length us ≡ length es → con_app t [] ≡ Some (record { con = k; params = ps; args = vs })
     → con_app (elims t (args es us)) [] ≡ Some (record { con = k; params = ps; args = vs ++ us })
 con_app-args k ps t vs [] [] n e = e ∙ ap (λ l. Some (record { con = k; params = ps; args = l })) (sym (append-nil vs))
 con_app-args k ps t vs [] (u ∷ us) n e = absurd cc
@@ -165,21 +165,21 @@ eta_value g d i t us c =
     }
 
 -- what the tree gives on values and eliminations that are convertible to these is convertible to w
-record Gives (g : Signature Term) (w : Term) (T : Tree Term) (r : List Term) (es : List Elim) : Type 0 where
-  by : (q : List Term) (ds : List Elim) (t : Term) → ConvEach g r q → ConvElims g es ds → Run g T q ds t → Conv g w t
+pub record Gives (g : Signature Term) (w : Term) (T : Tree Term) (r : List Term) (es : List Elim) : Type 0 where
+  pub by : (q : List Term) (ds : List Elim) (t : Term) → ConvEach g r q → ConvElims g es ds → Run g T q ds t → Conv g w t
 
 module _ (g : Signature Term) (w : Term) where
-  gives_intro : (T : Tree Term) (r : List Term) (b : Flag) (u : Term) (es : List Elim) → Gives g w (Intro T) r (Arg b u ∷ es) → Gives g w T (u ∷ r) es
+  pub gives_intro : (T : Tree Term) (r : List Term) (b : Flag) (u : Term) (es : List Elim) → Gives g w (Intro T) r (Arg b u ∷ es) → Gives g w T (u ∷ r) es
   gives_intro T r b u es x = record { by = intro_by }
     where
       intro_by : (q : List Term) (ds : List Elim) (t : Term) → ConvEach g (u ∷ r) q → ConvElims g es ds → Run g T q ds t → Conv g w t
       intro_by _ ds t (E.one {u = v} {us = q} c cs) k e = x.by q (Arg b v ∷ ds) t cs (E.argument c k) (R.intro e)
 
-  gives_cosplit : (bs : CoBranches Term) (T : Tree Term) (r : List Term) (f : ℕ) (es : List Elim) → co_branch bs f ≡ Some T → Gives g w (Cosplit bs) r (Field f ∷ es) → Gives g w T r es
+  pub gives_cosplit : (bs : CoBranches Term) (T : Tree Term) (r : List Term) (f : ℕ) (es : List Elim) → co_branch bs f ≡ Some T → Gives g w (Cosplit bs) r (Field f ∷ es) → Gives g w T r es
   gives_cosplit bs T r f es e x = record { by = λ q ds t c k run. x.by q (Field f ∷ ds) t c (E.field k) (R.cosplit e run) }
 
   -- the value has as its head form constructor c with all its arguments, whose branch is b with T
-  gives_split : (bs : ConBranches Term) (b : Branch Term) (T : Tree Term) (k : ℕ) (r : List Term) (es : List Elim) (t : Term) (c : ConApp) → k < length r → KeepsOnce g (length r) c.con b
+  pub gives_split : (bs : ConBranches Term) (b : Branch Term) (T : Tree Term) (k : ℕ) (r : List Term) (es : List Elim) (t : Term) (c : ConApp) → k < length r → KeepsOnce g (length r) c.con b
       → Conv g (value_at r k) t → full_con g t ≡ Some c → con_branch bs c.con ≡ Some (b, T) → AllByRecursion (λ i. i < length (spread k c.args r)) b.keep
       → Gives g w (Split k bs) r es → Gives g w T (kept b (spread k c.args r)) es
   gives_split bs b T k r es t c h o v e f n x = record {
@@ -193,7 +193,7 @@ module _ (g : Signature Term) (w : Term) where
         x.by a.0 ds u a.1 l (R.split full f (transport (λ q. Run g T q ds u) (sym env) run));
   }
 
-  gives_record : (k d : ℕ) (T : Tree Term) (r : List Term) (es : List Elim) → k < length r → IsEtaRecord g d → Gives g w (RecordSplit k d T) r es → Gives g w T (spread k (projections g d (value_at r k)) r) es
+  pub gives_record : (k d : ℕ) (T : Tree Term) (r : List Term) (es : List Elim) → k < length r → IsEtaRecord g d → Gives g w (RecordSplit k d T) r es → Gives g w T (spread k (projections g d (value_at r k)) r) es
   gives_record k d T r es h i x = record {
     by = λ q ds u p l run.
         let z = gather k (projections g d (value_at r k)) r q h p in
@@ -204,16 +204,16 @@ module _ (g : Signature Term) (w : Term) where
   }
 
 -- the tree of a branch that is taken, and what is kept there
-co_regular : (g : Signature Term) (n : ℕ) (bs : CoBranches Term) (f : ℕ) (T : Tree Term) → AreFit g n bs → co_branch bs f ≡ Some T → IsFit g n T
+pub co_regular : (g : Signature Term) (n : ℕ) (bs : CoBranches Term) (f : ℕ) (T : Tree Term) → AreFit g n bs → co_branch bs f ≡ Some T → IsFit g n T
 co_regular g n NoField f T p e = absurd cc
 co_regular g n (OnField h S bs) f T p e =
     (elim (eqb h f) as (λ o. cond o (Some S) (co_branch bs f) ≡ Some T → IsFit g n T) [ true ↦ λ e. transport (IsFit g n) (one_some e) p.0 | false ↦ λ e. co_regular g n bs f T p.1 e ]) e
 
-record TakenBranch (g : Signature Term) (n k : ℕ) (b : Branch Term) (T : Tree Term) : Type 0 where
-  once : KeepsOnce g n k b
-  tree : IsFit g (length b.keep) T
+pub record TakenBranch (g : Signature Term) (n k : ℕ) (b : Branch Term) (T : Tree Term) : Type 0 where
+  pub once : KeepsOnce g n k b
+  pub tree : IsFit g (length b.keep) T
 
-con_regular : (g : Signature Term) (n : ℕ) (bs : ConBranches Term) (k : ℕ) (b : Branch Term) (T : Tree Term) → BranchesFit g n bs → con_branch bs k ≡ Some (b, T) → TakenBranch g n k b T
+pub con_regular : (g : Signature Term) (n : ℕ) (bs : ConBranches Term) (k : ℕ) (b : Branch Term) (T : Tree Term) → BranchesFit g n bs → con_branch bs k ≡ Some (b, T) → TakenBranch g n k b T
 con_regular g n NoCon k b T p e = absurd cc
 con_regular g n (Refuted h bs) k b T p e =
     (elim (eqb h k) as (λ o. cond o None (con_branch bs k) ≡ Some (b, T) → TakenBranch g n k b T) [ true ↦ λ e. absurd cc | false ↦ λ e. con_regular g n bs k b T p e ]) e
@@ -228,7 +228,7 @@ con_regular g n (Goes h c S bs) k b T p e = by_test (eqb h k) refl (λ e. con_re
     by_test true i r e = of_pair (eqb-true h k i) e
     by_test false i r e = r e
 
-spread_length : (k : ℕ) (us r : List Term) → k < length r → length (spread k us r) ≡ length r + length us - 1
+pub spread_length : (k : ℕ) (us r : List Term) → k < length r → length (spread k us r) ≡ length r + length us - 1
 spread_length k us r h =
     let a = length-append (take k r ++ reverse us) (drop (k + 1) r) in
     let b = length-append (take k r) (reverse us) in
@@ -260,7 +260,7 @@ entered g bs (Form h es) b T us e = by_con (full_con g (elims h es)) refl e
     by_con (Some c) f e = by_branch c f (con_branch bs c.con) refl e
 
 module _ (g : Signature Term) where
-  call_gives : (f : ℕ) (T : Tree Term) (es : List Elim) → tree_of g f ≡ Some T → Gives g (elims (Def f) es) T [] es
+  pub call_gives : (f : ℕ) (T : Tree Term) (es : List Elim) → tree_of g f ≡ Some T → Gives g (elims (Def f) es) T [] es
   call_gives f T es e = record { by = λ q ds t c k run. at_none q ds t c k run }
     where
       at_none : (q : List Term) (ds : List Elim) (t : Term) → ConvEach g [] q → ConvElims g es ds → Run g T q ds t → Conv g (elims (Def f) es) t

@@ -1,13 +1,17 @@
 -- A yes of bounded conversion implies conversion, with solved metavariables replaced.
-use Rattle.std.specs.Prelude.{◌≡◌, ◌≢◌, ℕ, Bool, true, false, ◌&&◌, eqb, cond, List, [], ◌∷◌, ◌++◌, map, refl, Option, Some, None, option_map, option_and_then, zero, suc}
-use Rattle.std.proofs.Common.{ap, ap₂, sym, ◌∙◌, subst as transport, eqb-true, inl, inr}
+use Rattle.std.specs.Prelude.{◌≡◌, ◌≢◌, ℕ, Bool, true, false, ◌&&◌, eqb, cond, List, [], ◌∷◌, ◌++◌, length, map, slice_get, refl, Option, Some, None, option_map, option_and_then, zero, suc}
+use Rattle.std.specs.Option.{option_map_or}
+use Rattle.std.proofs.Common.{ap, sym, ◌∙◌, subst as transport, append-nil, append_assoc, eqb-true, inl, inr}
+use Rattle.std.proofs.lemmas.List.{length-map}
 use Rattle.core_rules.specs.Term.{Term, Terms, Var, Sort, Pi, Lam, App, Def, Fam, Con, Proj, Meta}
 use Rattle.core_rules.specs.Substitution.{replace, replace_all}
-use Rattle.core_rules.specs.Signature.{Telescope, FamDecl, ConDecl, Signature, con_place, con_decl, fam_decl}
+use Rattle.core_rules.specs.Signature.{Telescope, FamDecl, ConDecl, Signature, con_place, con_decl, fam_decl, fields_of}
 use Rattle.core_rules.specs.Mapped.{entry_map, signature_map}
-use Rattle.core_rules.specs.Elimination.{Elim, Arg, Field, elims, args, projections}
+use Rattle.core_rules.specs.Elimination.{Elim, Arg, Field, elims, projections}
 use Rattle.core_rules.specs.Conversion as C
 use Rattle.core_rules.specs.Conversion.{Conv, IsEtaCon}
+use Rattle.core_rules.specs.Run.{ConApp, con_app, takes}
+use Rattle.core_rules.specs.InScope.{FamiliesHaveShape}
 use Rattle.core_rules.specs.Heads.{Solutions, Answer, Form, Blocked, Bounded, Within, Out, HeadOf}
 use Rattle.core_rules.specs.Bounded.{Verdict, Yes, No, OutOfFuel, OutOfDepth, WaitsFor, Part, Pair, Decision, Parts, same_flag, with_part, argument_parts, term_parts, Cut, cut_more, last_field, Lambda, lambda, applied, fitting, RecordValue, record_value, Kind, Value, Constructor, Neither, con_kind, kind, parts_or, if_one, same_heads, by_field, by_kind, by_lambda, decide, below, InOrder, Decided, ConvOf}
 use Rattle.core_rules.specs.BoundedLaws.{shown, replace_elims, IsFull}
@@ -19,8 +23,13 @@ use Rattle.core_rules.proofs.Heads.Replace.{replace-shift}
 use Rattle.core_rules.proofs.Heads.Replaced.{image, replace-elims, map-projections}
 use Rattle.core_rules.proofs.Heads.Gather as E
 use Rattle.core_rules.proofs.Heads.Gather.{ConvEach, ConvElims, conv-elims_all}
-use Rattle.core_rules.proofs.Heads.Sound.{cond_some, and_true, elims_args}
+use Rattle.core_rules.proofs.Heads.Sound.{con_app-more, eqb_same, and_true, cond_some, full_con_by, elims_args}
 use Rattle.core_rules.proofs.Heads.HeadConverts.{eta_con_image, heads_convert}
+use Rattle.core_rules.proofs.Heads.ReplacedVerdict.{fitting-image}
+use Rattle.core_rules.proofs.Heads.Regular.{eta_fields}
+use Rattle.core_rules.proofs.Heads.Same.{same_replaced}
+use Rattle.core_rules.proofs.Conversion.Names.{same_term}
+use Rattle.core_rules.proofs.Run.Records.{argument as argument_of_full}
 
 not_below : (xs : List ℕ) (q : Verdict) → q ≢ Yes → Yes ≡ below xs q → ⊥
 not_below xs Yes n e = n refl
@@ -69,18 +78,53 @@ lambda_is (Con k ps) es l e = absurd cc
 lambda_is (Proj f t) es l e = absurd cc
 lambda_is (Meta m ts) es l e = absurd cc
 
-fitting_is : (c : Telescope Term) (es : List Elim) (us : List Term) → fitting c es ≡ Some us → es ≡ args c us
-fitting_is [] [] us e = refl
-fitting_is [] (d ∷ es) us e = absurd cc
-fitting_is (x ∷ c) [] us e = absurd cc
-fitting_is (x ∷ c) (Field f ∷ es) us e = absurd cc
-fitting_is (x ∷ c) (Arg b u ∷ es) us e =
-    let h = cond_some (same_flag x.flag b) (option_map (λ us. u ∷ us) (fitting c es)) us e in
-    by_rest (fitting c es) (λ vs k. fitting_is c es vs k) refl h.0 h.1
+fitting_length : (c : Telescope Term) (es : List Elim) (us : List Term) → fitting c es ≡ Some us → length us ≡ length c
+fitting_length [] [] us e = ap length (sym (one_some e))
+fitting_length [] (d ∷ es) us e = absurd cc
+fitting_length (x ∷ c) [] us e = absurd cc
+fitting_length (x ∷ c) (Field f ∷ es) us e = absurd cc
+fitting_length (x ∷ c) (Arg b u ∷ es) us e = by_rest (fitting c es) (λ vs k. fitting_length c es vs k) e
   where
-    by_rest : (o : Option (List Term)) → ((vs : List Term) → fitting c es ≡ Some vs → es ≡ args c vs) → fitting c es ≡ o → same_flag x.flag b ≡ true → option_map (λ us. u ∷ us) o ≡ Some us → Arg b u ∷ es ≡ args (x ∷ c) us
-    by_rest None r k s e = absurd cc
-    by_rest (Some vs) r k s e = transport (λ us. Arg b u ∷ es ≡ args (x ∷ c) us) (one_some e) (ap₂ (λ b es. Arg b u ∷ es) (sym (same_flag-true x.flag b s)) (r vs k))
+    by_rest : (o : Option (List Term)) → ((vs : List Term) → o ≡ Some vs → length vs ≡ length c) → option_map (λ us. u ∷ us) o ≡ Some us → length us ≡ suc (length c)
+    by_rest None r e = absurd cc
+    by_rest (Some vs) r e = ap length (sym (one_some e)) ∙ ap suc (r vs refl)
+
+-- a constructor at arguments has these, whatever their flags are
+fitting_args : (k : ℕ) (ps : Terms) (t : Term) (vs : List Term) (c : Telescope Term) (es : List Elim) (us : List Term) → fitting c es ≡ Some us → con_app t [] ≡ Some (record { con = k; params = ps; args = vs })
+    → con_app (elims t es) [] ≡ Some (record { con = k; params = ps; args = vs ++ us })
+fitting_args k ps t vs [] [] us e a = a ∙ ap (λ l. Some (record { con = k; params = ps; args = l })) (sym (append-nil vs) ∙ ap (λ l. vs ++ l) (one_some e))
+fitting_args k ps t vs [] (d ∷ es) us e a = absurd cc
+fitting_args k ps t vs (x ∷ c) [] us e a = absurd cc
+fitting_args k ps t vs (x ∷ c) (Field f ∷ es) us e a = absurd cc
+fitting_args k ps t vs (x ∷ c) (Arg b u ∷ es) us e a =
+    by_rest (fitting c es) (λ ws i. fitting_args k ps (App b t u) (vs ++ u ∷ []) c es ws i (con_app-more t [] (u ∷ []) (record { con = k; params = ps; args = vs }) a)) e
+  where
+    by_rest : (o : Option (List Term)) → ((ws : List Term) → o ≡ Some ws → con_app (elims (App b t u) es) [] ≡ Some (record { con = k; params = ps; args = (vs ++ u ∷ []) ++ ws })) → option_map (λ us. u ∷ us) o ≡ Some us
+        → con_app (elims (App b t u) es) [] ≡ Some (record { con = k; params = ps; args = vs ++ us })
+    by_rest None r e = absurd cc
+    by_rest (Some ws) r e = r ws refl ∙ ap (λ l. Some (record { con = k; params = ps; args = l })) (append_assoc vs (u ∷ []) ws ∙ ap (λ l. vs ++ l) (one_some e))
+
+each_field : (g : Signature Term) (t : Term) (fs : List ℕ) (us : List Term) → length fs ≡ length us → ((i k : ℕ) (u : Term) → slice_get fs i ≡ Some k → slice_get us i ≡ Some u → Conv g (Proj k t) u) → ConvEach g (map (λ k. Proj k t) fs) us
+each_field g t [] [] n h = E.none
+each_field g t [] (u ∷ us) n h = absurd cc
+each_field g t (k ∷ fs) [] n h = absurd cc
+each_field g t (k ∷ fs) (u ∷ us) n h =
+    let later : (i j : ℕ) (v : Term) → slice_get fs i ≡ Some j → slice_get us i ≡ Some v → Conv g (Proj j t) v = λ i j v a b. h (suc i) j v a b in
+    let as_many : length fs ≡ length us = cc n in
+    E.one (h 0 k u refl refl) (each_field g t fs us as_many later)
+
+each_then : {g : Signature Term} (us vs ws : List Term) → ConvEach g us vs → ConvEach g vs ws → ConvEach g us ws
+each_then us vs ws E.none d = d
+each_then us vs ws (E.one {u = v} {us = xs} c cs) (E.one d ds) = E.one (C.then c d) (each_then _ xs _ cs ds)
+
+-- the constructor of a record that has eta, at as many arguments of any flags as there are fields: its projections are these
+each_projection : (g : Signature Term) (k d : ℕ) (is : IsEtaCon g k d) (ps : Terms) (es : List Elim) (us : List Term) → length is.con.args ≡ length (fields_of g d) → fitting is.con.args es ≡ Some us → ConvEach g (projections g d (elims (Con k ps) es)) us
+each_projection g k d is ps es us n e =
+    let l = fitting_length is.con.args es us e in
+    let s : ConApp = record { con = k; params = ps; args = us } in
+    let many : takes g k (length us) ≡ true = ap (λ o. option_map_or (λ c. eqb (length c.args) (length us)) o false) is.is_con ∙ (ap (λ m. eqb m (length us)) (sym l) ∙ eqb_same (length us)) in
+    let full = full_con_by g (elims (Con k ps) es) s (fitting_args k ps (Con k ps) [] is.con.args es us e refl) many in
+    each_field g (elims (Con k ps) es) (fields_of g d) us (sym (l ∙ n)) (λ i j u a b. C.field (argument_of_full g d (elims (Con k ps) es) s full (record { place = is.place; as_many = sym (l ∙ n) }) i j u a b))
 
 -- a form that is a value of a record that has eta
 record IsValue (g : Signature Term) (h : Term) (es : List Elim) (v : RecordValue) : Type 0 where
@@ -88,7 +132,7 @@ record IsValue (g : Signature Term) (h : Term) (es : List Elim) (v : RecordValue
   params : Terms
   is : IsEtaCon g con v.fam
   head : h ≡ Con con params
-  spine : es ≡ args is.con.args v.values
+  spine : fitting is.con.args es ≡ Some v.values
 
 record_value_is : (g : Signature Term) (k : ℕ) (ps : Terms) (es : List Elim) (v : RecordValue) → record_value g k es ≡ Some v → IsValue g (Con k ps) es v
 record_value_is g k ps es v = by_place (con_place g k) refl
@@ -99,7 +143,7 @@ record_value_is g k ps es v = by_place (con_place g k) refl
     at_values p a d b c x y z (Some us) i e =
         let q : con_place g k ≡ Some (p.0, 0) = a ∙ ap (λ j. Some (p.0, j)) (eqb-true p.1 0 z) in
         transport (λ v. IsValue g (Con k ps) es v) (one_some e)
-        (record { con = k; params = ps; is = record { decl = d; con = c; is_decl = b; is_con = x; place = q; eta = y }; head = refl; spine = fitting_is c.args es us i })
+        (record { con = k; params = ps; is = record { decl = d; con = c; is_decl = b; is_con = x; place = q; eta = y }; head = refl; spine = i })
 
     by_con : (p : ℕ × ℕ) → con_place g k ≡ Some p → (d : FamDecl Term) → fam_decl g p.0 ≡ Some d → (o : Option (ConDecl Term)) → con_decl g k ≡ o
         → option_and_then (λ c. cond (d.eta && eqb p.1 0) (option_map (λ us. record { fam = p.0; values = us }) (fitting c.args es)) None) o ≡ Some v → IsValue g (Con k ps) es v
@@ -170,27 +214,25 @@ module _ (g : Signature Term) (f : Solutions) where
   projections_image : (d : ℕ) (t : Term) → map (replace f) (projections g d t) ≡ projections (image f g) d (replace f t)
   projections_image d t = map-projections f g d t ∙ ap (map (λ i. Proj i (replace f t))) (sym (fields_of-map (replace f) g d))
 
-  args_image : (c : Telescope Term) (us : List Term) → replace_elims f (args c us) ≡ args (map (entry_map (replace f)) c) (map (replace f) us)
-  args_image [] us = refl
-  args_image (e ∷ c) [] = refl
-  args_image (e ∷ c) (u ∷ us) = ap (λ l. Arg e.flag (replace f u) ∷ l) (args_image c us)
-
   -- a value of a record that has eta, each field of which is convertible to that of t
-  value_converts : (h : Term) (es : List Elim) (v : RecordValue) (t : Term) → IsValue g h es v → ConvEach (image f g) (map (replace f) v.values) (map (replace f) (projections g v.fam t)) → Conv (image f g) (replace f (elims h es)) (replace f t)
-  value_converts h es v t i c =
+  value_converts : FamiliesHaveShape g → (h : Term) (es : List Elim) (v : RecordValue) (t : Term) → IsValue g h es v → ConvEach (image f g) (map (replace f) v.values) (map (replace f) (projections g v.fam t)) → Conv (image f g) (replace f (elims h es)) (replace f t)
+  value_converts shapes h es v t i c =
       let c' : ConvEach (image f g) (map (replace f) v.values) (projections (image f g) v.fam (replace f t)) = transport (ConvEach (image f g) (map (replace f) v.values)) (projections_image v.fam t) c in
       let is = eta_con_image f g i.con v.fam i.is in
-      let k = Con i.con (replace_all f i.params) in
-      let e : replace f (elims h es) ≡ elims k (args is.con.args (map (replace f) v.values)) =
-      ap₂ (λ h es. replace f (elims h es)) i.head i.spine ∙ (replace-elims f (Con i.con i.params) (args i.is.con.args v.values) ∙ ap (elims k) (args_image i.is.con.args v.values)) in
+      let ps = replace_all f i.params in
+      let ds = replace_elims f es in
+      let e : replace f (elims h es) ≡ elims (Con i.con ps) ds = ap (λ h. replace f (elims h es)) i.head ∙ replace-elims f (Con i.con i.params) es in
+      let n : length is.con.args ≡ length (fields_of (image f g) v.fam) = length-map i.is.con.args (entry_map (replace f)) ∙ (eta_fields g shapes i.con v.fam i.is ∙ ap length (sym (fields_of-map (replace f) g v.fam))) in
+      let x : fitting is.con.args ds ≡ Some (map (replace f) v.values) = fitting-image f i.is.con.args es ∙ ap (option_map (map (replace f))) i.spine in
+      let p = each_then (projections (image f g) v.fam (elims (Con i.con ps) ds)) (map (replace f) v.values) (projections (image f g) v.fam (replace f t)) (each_projection (image f g) i.con v.fam is ps ds (map (replace f) v.values) n x) c' in
       transport (λ a. Conv (image f g) a (replace f t)) (sym e)
-      (C.then (conv-elims_all C.same (elims_args is.con.args (map (replace f) v.values) (projections (image f g) v.fam (replace f t)) c')) (C.back (C.eta_record (replace_all f i.params) is)))
+      (C.then (C.eta_record ps is) (C.then (conv-elims_all C.same (elims_args is.con.args (projections (image f g) v.fam (elims (Con i.con ps) ds)) (projections (image f g) v.fam (replace f t)) p)) (C.back (C.eta_record ps is))))
 
   each_back : {us vs : List Term} → ConvEach (image f g) us vs → ConvEach (image f g) vs us
   each_back E.none = E.none
   each_back (E.one c cs) = E.one (C.back c) (each_back cs)
 
-  module _ (V : Term → Term → Verdict → Type 0) (i : Implies g f V) where
+  module _ (V : Term → Term → Verdict → Type 0) (i : Implies g f V) (shapes : FamiliesHaveShape g) where
     each : (ps : List Part) → InOrder V ps Yes → Each ps
     each [] h = tt
     each (Pair xs t u ∷ ps) (inl h) = (i.by t u h.0, each ps h.1)
@@ -250,10 +292,10 @@ module _ (g : Signature Term) (f : Solutions) where
     by_kind_converts : (q : Decision) (h : Term) (es : List Elim) (h' : Term) (ds : List Elim) (o p : Kind) → kind g h es ≡ o → kind g h' ds ≡ p → (Decided V q Yes → ⊥) → Decided V (by_kind g q h es h' ds o p) Yes → Conv (image f g) (replace f (elims h es)) (replace f (elims h' ds))
     by_kind_converts q h es h' ds (Value v) Neither a b n d =
         let x = parts_each q (term_parts v.values (projections g v.fam (elims h' ds))) n d in
-        value_converts h es v (elims h' ds) (kind_is g h es v a) (term_parts_all v.values (projections g v.fam (elims h' ds)) x.0 x.1 x.2)
+        value_converts shapes h es v (elims h' ds) (kind_is g h es v a) (term_parts_all v.values (projections g v.fam (elims h' ds)) x.0 x.1 x.2)
     by_kind_converts q h es h' ds Neither (Value v) a b n d =
         let x = parts_each q (term_parts (projections g v.fam (elims h es)) v.values) n d in
-        C.back (value_converts h' ds v (elims h es) (kind_is g h' ds v b) (each_back (term_parts_all (projections g v.fam (elims h es)) v.values x.0 x.1 x.2)))
+        C.back (value_converts shapes h' ds v (elims h es) (kind_is g h' ds v b) (each_back (term_parts_all (projections g v.fam (elims h es)) v.values x.0 x.1 x.2)))
     by_kind_converts q h es h' ds (Value v) (Value w) a b n d = by_field_converts q h es h' ds (last_field es) (last_field ds) refl refl n d
     by_kind_converts q h es h' ds (Value v) Constructor a b n d = by_field_converts q h es h' ds (last_field es) (last_field ds) refl refl n d
     by_kind_converts q h es h' ds Constructor p a b n d = by_field_converts q h es h' ds (last_field es) (last_field ds) refl refl n d
@@ -292,7 +334,9 @@ module _ (g : Signature Term) (f : Solutions) where
     both_convert s x r fuel t u Out c y z d = absurd cc
 
 -- a yes of bounded conversion implies conversion
-pub yes_converts : (g : Signature Term) (s f : Solutions) (fuel depth : ℕ) (t u : Term) → IsFull s f → HasFitTrees g → ConvOf g s fuel depth t u Yes → Conv (signature_map (replace f) g) (replace f t) (replace f u)
-yes_converts g s f fuel zero t u x r d = absurd cc
-yes_converts g s f fuel (suc depth) t u x r d =
-    both_convert g f (ConvOf g s fuel depth) (record { by = λ t u c. yes_converts g s f fuel depth t u x r c }) s x r fuel t u d.0 d.1 d.2 d.3 d.4
+pub yes_converts : (g : Signature Term) (s f : Solutions) (fuel depth : ℕ) (t u : Term) → IsFull s f → FamiliesHaveShape g → HasFitTrees g → ConvOf g s fuel depth t u Yes → Conv (signature_map (replace f) g) (replace f t) (replace f u)
+yes_converts g s f fuel zero t u x shapes r d = absurd cc
+yes_converts g s f fuel (suc depth) t u x shapes r (inl d) = same_term (image f g) (replace f t) (replace f u) (same_replaced s f x t u d.0)
+yes_converts g s f fuel (suc depth) t u x shapes r (inr d) =
+    let h = d.1 in
+    both_convert g f (ConvOf g s fuel depth) (record { by = λ t u c. yes_converts g s f fuel depth t u x shapes r c }) shapes s x r fuel t u h.left h.right h.is_left h.is_right h.decided

@@ -59,7 +59,7 @@ module _ (g : Signature Term) (s : SignatureInScope g any_meta) where
   function_records p (Open x a) T e h = absurd cc
   function_records p (Function x a qs U) T e h =
       subst (RecordsOf (λ n. n < length (fams g))) (same_tree h)
-      (scoped_records (take p g ++ Open x a ∷ []) any_meta (length (fams g)) (fewer_before g p x a) 0 U (s p (Function x a qs U) e).2)
+      (scoped_records (take p g ++ Open x a ∷ []) any_meta (length (fams g)) (fewer_before g p x a) 0 U (s p (Function x a qs U) e).1)
 
   tree_records : (f : ℕ) (T : Tree Term) → tree_of g f ≡ Some T → RecordsOf (λ n. n < length (fams g)) T
   tree_records f T e =

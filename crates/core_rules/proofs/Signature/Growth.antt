@@ -1,9 +1,9 @@
 -- A derivable signature grows by declarations that are good over it, and so do its parts.
-use Rattle.std.specs.Prelude.{◌≡◌, ℕ, ◌⊎◌, ◌<◌, ◌≤◌, List, [], ◌∷◌, ◌++◌, length, take, slice_get, Some, refl, zero, suc}
+use Rattle.std.specs.Prelude.{◌≡◌, ℕ, ◌⊎◌, ◌<◌, ◌≤◌, [], ◌∷◌, ◌++◌, length, take, slice_get, Some, refl, zero, suc}
 use Rattle.std.proofs.Common.{ap, sym, ◌∙◌, subst, arith, ⊎_elim}
 use Rattle.std.proofs.lemmas.List.{take-append-le, take-take, take_all}
 use Rattle.core_rules.specs.Term.{Term, HasNoMeta}
-use Rattle.core_rules.specs.Signature.{Signature, Decl, FamDecl, Family, Function, fam_decl, CoreClause, Tree}
+use Rattle.core_rules.specs.Signature.{Signature, Decl, FamDecl, Family, fam_decl}
 use Rattle.core_rules.specs.Mapped.{AllDecl}
 use Rattle.core_rules.specs.Derivable.{Derivable, Good}
 use Rattle.core_rules.specs.Derivable as D
@@ -48,13 +48,6 @@ derivable-taken g n r = record {
   good = λ i d s. let p = get_taken g n i d s in rw (take-take i n g p.0) (r.good i d p.1);
   no_meta = λ i d s. r.no_meta i d (get_taken g n i d s).1;
 }
-
-no_function : (g : Signature Term) (x : ℕ) (a : Term) (qs : List (CoreClause Term)) (T : Tree Term) → Good g (Function x a qs T) → ⊥
-no_function g x a qs T (D.function h t) = elim t [ ]
-
--- no tree is typed yet
-pub derivable-no_function : (g : Signature Term) (i x : ℕ) (a : Term) (qs : List (CoreClause Term)) (T : Tree Term) → Derivable g → slice_get g i ≡ Some (Function x a qs T) → ⊥
-derivable-no_function g i x a qs T r h = no_function (take i g) x a qs T (r.good i (Function x a qs T) h)
 
 good_shape : (g : Signature Term) (d : FamDecl Term) → Good g (Family d) → HasShape d
 good_shape g d (D.family h) = h.shape

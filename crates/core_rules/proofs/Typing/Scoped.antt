@@ -1,5 +1,5 @@
--- A typed term is in scope, and so is a derivable signature.
-use Rattle.std.specs.Prelude.{◌≡◌, ℕ, ◌+◌, ◌<◌, List, [], ◌∷◌, ◌++◌, length, map, sum, take, slice_get, Some, refl, suc}
+-- A typed term is in scope, and so is a good family.
+use Rattle.std.specs.Prelude.{◌≡◌, ℕ, ◌+◌, ◌<◌, List, [], ◌∷◌, ◌++◌, length, map, sum, slice_get, Some, refl, suc}
 use Rattle.std.specs.List.{AllByRecursion}
 use Rattle.std.proofs.Common.{ap, sym, ◌∙◌, arith, zero-add, add-zero}
 use Rattle.std.proofs.lemmas.Grind.{common_steps}
@@ -7,13 +7,13 @@ use Rattle.std.proofs.lemmas.Option.{slice_get_within}
 use Rattle.std.proofs.lemmas.List.{length-map, length-append, length-reverse}
 use mathlib.Core.List.{reverse_aux}
 use Rattle.core_rules.specs.Term.{Term, Terms, App, Fam, Proj, End, And, to_list}
-use Rattle.core_rules.specs.Signature.{Signature, Context, Telescope, onto, FamDecl, ConDecl, Decl, Postulate, Family, Open, Function, without_cons, defs, fams, def_type, decl_type, field_counts, places, numbers}
+use Rattle.core_rules.specs.Signature.{Signature, Context, Telescope, onto, FamDecl, ConDecl, Family, without_cons, defs, fams, def_type, decl_type, field_counts, places, numbers}
 use Rattle.core_rules.specs.Elimination.{Elim, Arg, Field, elims, args, pi_over, vars_from, con_type}
 use Rattle.core_rules.specs.Typing as T
 use Rattle.core_rules.specs.Derivable as D
 use Rattle.core_rules.specs.Derivable.{IsWithin, GoodCon, GoodFamily, Good, Derivable}
 use Rattle.core_rules.specs.Typing.{Typing, Fits, WellFormed, IsCon, IsField, entry}
-use Rattle.core_rules.specs.InScope.{InScope, AllInScope, TelescopeInScope, ConInScope, FamilyInScope, DeclInScope, SignatureInScope, con_params, any_meta}
+use Rattle.core_rules.specs.InScope.{InScope, AllInScope, TelescopeInScope, ConInScope, FamilyInScope, con_params, any_meta}
 use Rattle.core_rules.proofs.Signature.Places.{length-numbers}
 use Rattle.core_rules.proofs.Run.Records.{goes_on}
 
@@ -26,11 +26,11 @@ length-places b (n ∷ ns) =
     let q : sum (n ∷ ns) ≡ n + sum ns = grind (arith, common_steps) in
     length-append here (places (b + 1) ns) ∙ ((λ i. p i + h i) ∙ sym q)
 
-length-onto : (es c : Context Term) → length (onto es c) ≡ length es + length c
+pub length-onto : (es c : Context Term) → length (onto es c) ≡ length es + length c
 length-onto [] c = sym (zero-add (length c))
 length-onto (e ∷ es) c = length-onto es (e ∷ c) ∙ omega arith
 
-fits-length : {g : Signature Term} {c es : Context Term} {r : List Term} → Fits g c r es → length r ≡ length es
+pub fits-length : {g : Signature Term} {c es : Context Term} {r : List Term} → Fits g c r es → length r ≡ length es
 fits-length T.none = refl
 fits-length (T.more h k) = ap suc (fits-length h)
 
@@ -71,7 +71,7 @@ module _ (g : Signature Term) where
     typing-in_scope (T.proj {f = f} is ps e h) = (field_below f is, typing-in_scope h)
     typing-in_scope (T.convert h k) = typing-in_scope h
 
-    fits-in_scope : {c es : Context Term} {r : List Term} → Fits g c r es → AllByRecursion (InScope g any_meta (length c)) r
+    pub fits-in_scope : {c es : Context Term} {r : List Term} → Fits g c r es → AllByRecursion (InScope g any_meta (length c)) r
     fits-in_scope T.none = tt
     fits-in_scope (T.more h k) = (typing-in_scope k, fits-in_scope h)
 
@@ -126,7 +126,7 @@ module _ (g : Signature Term) where
       }
 
 -- what holds at each place holds of each item
-all_of : {X : Type 0} (P : X → Type 0) (xs : List X) → ((i : ℕ) (x : X) → slice_get xs i ≡ Some x → P x) → AllByRecursion P xs
+pub all_of : {X : Type 0} (P : X → Type 0) (xs : List X) → ((i : ℕ) (x : X) → slice_get xs i ≡ Some x → P x) → AllByRecursion P xs
 all_of P [] h = tt
 all_of P (x ∷ xs) h = (h 0 x refl, all_of P xs (λ i. h (suc i)))
 
@@ -142,13 +142,3 @@ family-in_scope g d h =
       cons = all_of (ConInScope known any_meta (length d.params)) d.cons (λ i k e. con-in_scope known (length (fams g)) d k (h.cons i k e));
       fields = rw c at (within-in_scope known h.fields);
     }
-
-good-in_scope : (g : Signature Term) (d : Decl Term) → Good g d → DeclInScope g any_meta d
-good-in_scope g (Postulate x a) (D.postulate h) = typing-in_scope g h.holds
-good-in_scope g (Family d) (D.family h) = family-in_scope g d h
-good-in_scope g (Open x a) h = elim h [ ]
-good-in_scope g (Function x a qs T) (D.function h t) = elim t [ ]
-
--- a derivable signature is in scope
-pub derivable-in_scope : (g : Signature Term) → Derivable g → SignatureInScope g any_meta
-derivable-in_scope g r i d e = good-in_scope (take i g) d (r.good i d e)

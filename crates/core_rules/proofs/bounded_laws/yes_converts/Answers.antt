@@ -1,8 +1,8 @@
 -- A yes implies conversion.
 use Rattle.core_rules.proofs.Heads.YesConverts.{yes_converts}
 use Rattle.core_rules.specs.InScope.{any_meta}
-use Rattle.core_rules.proofs.Heads.Regular.{regular_fit}
+use Rattle.core_rules.proofs.Heads.Regular.{shapes, regular_fit}
 use Rattle.core_rules.proofs.bounded_laws.yes_converts.Goals as goal
 
 pub returns : goal.returns
-returns c = λ g s f fuel depth t u x i r d. yes_converts g s f fuel depth t u x (regular_fit g any_meta i r) d
+returns c = λ g s f fuel depth t u x i r d. yes_converts g s f fuel depth t u x (shapes g any_meta i) (regular_fit g any_meta i r) d

@@ -1,5 +1,5 @@
 -- A derivable signature is in scope.
-use Rattle.core_rules.proofs.Typing.Scoped.{derivable-in_scope}
+use Rattle.core_rules.proofs.Trees.Scoped.{derivable-in_scope}
 use Rattle.core_rules.proofs.laws.derivable_in_scope.Goals as goal
 
 pub returns : goal.returns

@@ -1,0 +1,5 @@
+-- Laws of typed trees.
+pub mod Scoped
+pub mod Regular
+pub mod Addition
+pub mod Vector

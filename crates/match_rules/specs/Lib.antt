@@ -1,0 +1,4 @@
+pub mod Matching
+pub mod Covering
+pub mod AdditionClauses
+pub mod Laws

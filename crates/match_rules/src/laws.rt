@@ -1,0 +1,24 @@
+//! First match. Each law is the contract of a function that does nothing.
+//! The statements stand in `specs/Laws.antt`, under the same names.
+
+ghost use Rattle.match_rules.specs.Laws.{CoveredClausesHold, DerivableClausesHold, AdditionClausesHold, PlusOfSuccessor};
+
+/// In a signature in scope whose trees are typed, each clause of a function whose tree follows its clauses holds.
+pub fn covered_clauses_hold()
+    ensures { CoveredClausesHold }
+{}
+
+/// In a derivable signature each clause of a function whose tree follows its clauses holds.
+pub fn derivable_clauses_hold()
+    ensures { DerivableClausesHold }
+{}
+
+/// Addition by its clauses is derivable, they are in scope, its tree follows them, and each of them holds.
+pub fn addition_clauses_hold()
+    ensures { AdditionClausesHold }
+{}
+
+/// The second clause of addition, at a call that fits.
+pub fn plus_of_successor()
+    ensures { PlusOfSuccessor }
+{}
