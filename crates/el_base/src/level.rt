@@ -26,6 +26,13 @@ impl Model for Level {
 }
 
 impl Level {
+    /// The level of `Set` alone.
+    pub fn zero() -> Level
+        ensures { result ≡ 0 }
+    {
+        Level { number: 0 }
+    }
+
     /// The level with this number, unless the number is greater than the limit.
     pub fn new(number: u32) -> Option<Level>
         ensures level { IfSome result (λ l. l ≡ number) }
