@@ -1,18 +1,13 @@
 ghost use Rattle.std.specs.Prelude.{◌≡◌, [], ◌∷◌, ◌-◌, length, take, IfOk};
 ghost use Rattle.agda_parser.specs.DeclarationSyntax as spec;
-ghost use Rattle.agda_parser.specs.Declarations as trees;
-ghost use Rattle.agda_parser.specs.Signs.{Reads};
-ghost use Rattle.agda_parser.specs.Signs as signs_spec;
+ghost use Rattle.agda_grammar.specs.Declarations as trees;
+ghost use Rattle.expr_parser.specs.Cursor.{Reads};
+ghost use Rattle.expr_parser.specs.Cursor as signs_spec;
 ghost use Rattle.parse_laws.specs.Parser as laws;
-ghost use Rattle.agda_parser.specs.declared.sign.Kind.TheVariants as k;
+ghost use Rattle.agda_grammar.specs.declared.sign.Kind.TheVariants as k;
 
-use crate::cursor::Signs;
-use crate::exprs::expr;
-use crate::name::name_of;
-use crate::names::{name, names};
-use crate::patterns::elims;
-use crate::sign::{Kind, Mark};
-use crate::stop::Stop;
+use agda_grammar::{Kind, Mark};
+use expr_parser::{Signs, Stop, name_of, read_elims, read_expr, read_name, read_names};
 use el_outside::Span;
 use source_tree::{Clause, Expr, Pattern, Place, Signature};
 use sqlite_items::Items;
@@ -39,13 +34,13 @@ pub fn declaring(
 ) -> Result<Signature, Stop>
     ensures { Reads (spec.declaring text.now turns signs.old) result signs.new }
 {
-    let first = name(alloc, text, signs)?;
+    let first = read_name(alloc, text, signs)?;
     let start = first.place;
     let mut found = Items::new(alloc);
     found.push(first)?;
-    let all = names(alloc, text, signs, turns, found)?;
+    let all = read_names(alloc, text, signs, turns, found)?;
     signs.expect(Kind::Colon)?;
-    let ty = expr(alloc, text, signs, turns)?;
+    let ty = read_expr(alloc, text, signs, turns)?;
     let place = start.to(ty.place());
     Ok(Signature {
         place,
@@ -134,7 +129,7 @@ fn right_side(
 {
     if signs.sees(Kind::Equals) {
         signs.expect(Kind::Equals)?;
-        Ok(Some(expr(alloc, text, signs, turns)?))
+        Ok(Some(read_expr(alloc, text, signs, turns)?))
     } else {
         Ok(None)
     }
@@ -150,7 +145,7 @@ fn sides(
 ) -> Result<(Items<Pattern>, Option<Expr>), Stop>
     ensures { Reads (spec.sides text.now turns signs.old) result signs.new }
 {
-    let patterns = elims(alloc, text, signs, turns)?;
+    let patterns = read_elims(alloc, text, signs, turns)?;
     let right = right_side(alloc, text, signs, turns)?;
     Ok((patterns, right))
 }

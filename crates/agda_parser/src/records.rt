@@ -1,16 +1,14 @@
 ghost use Rattle.std.specs.Prelude.{◌≡◌, [], ◌∷◌};
 ghost use Rattle.agda_parser.specs.DeclarationSyntax as spec;
-ghost use Rattle.agda_parser.specs.Declarations as trees;
-ghost use Rattle.agda_parser.specs.Signs.{Reads, is};
-ghost use Rattle.agda_parser.specs.Signs as signs_spec;
+ghost use Rattle.agda_grammar.specs.Declarations as trees;
+ghost use Rattle.expr_parser.specs.Cursor.{Reads, is};
+ghost use Rattle.expr_parser.specs.Cursor as signs_spec;
 ghost use Rattle.parse_laws.specs.Parser as laws;
-ghost use Rattle.agda_parser.specs.declared.sign.Kind.TheVariants as k;
+ghost use Rattle.agda_grammar.specs.declared.sign.Kind.TheVariants as k;
 
-use crate::cursor::Signs;
 use crate::decls::{declarings, last_signature};
-use crate::name::name_of;
-use crate::sign::Kind;
-use crate::stop::Stop;
+use agda_grammar::Kind;
+use expr_parser::{Signs, Stop, name_of};
 use source_tree::{Place, RecordItem};
 use sqlite_items::Items;
 use std::alloc::Global;

@@ -1,5 +1,5 @@
-use Rattle.agda_parser.proofs.Verdict.{answers_of}
-use Rattle.agda_parser.specs.Declarations.{file_then, file_tree}
+use Rattle.expr_parser.proofs.Verdict.{answers_of}
+use Rattle.agda_grammar.specs.Declarations.{file_then, file_tree}
 use Rattle.agda_parser.specs.DeclarationSyntax.{whole_file}
 use Rattle.agda_parser.proofs.DeclarationRules.{whole_file_good}
 use Rattle.agda_parser.proofs.DeclarationComplete.{file_size, whole_file_read}

@@ -2,7 +2,7 @@ use Rattle.std.proofs.Common.{rules, arith}
 use Rattle.std.proofs.lemmas.Grind.{common_steps}
 use Rattle.agda_parser.specs.DeclarationSyntax.{more_field_items, one_field_item}
 use Rattle.parse_laws.specs.Parser.{many_from}
-use Rattle.agda_parser.proofs.Turns.{one_more, no_more}
+use Rattle.expr_parser.proofs.Turns.{one_more, no_more}
 use Rattle.agda_parser.proofs.records.more_field_items.Goals as goal
 
 pub loop-turn-init : goal.loop-turn-init
