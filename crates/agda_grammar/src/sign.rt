@@ -1,3 +1,4 @@
+use el_base::Level;
 use source_tree::Place;
 
 /// What the grammar sees of a token or of a sign of a block.
@@ -42,7 +43,7 @@ pub enum Kind {
 pub struct Mark {
     pub place: Place,
     /// The level of a `Set`, and 0 elsewhere.
-    pub level: u32,
+    pub level: Level,
 }
 
 /// A token or a sign of a block.

@@ -7,8 +7,8 @@ ghost use Rattle.parse_laws.specs.Parser as laws;
 ghost use Rattle.agda_grammar.specs.declared.sign.Kind.TheVariants as k;
 
 use agda_grammar::{Kind, Mark};
-use expr_parser::{Signs, Stop, name_of, read_elims, read_expr, read_name, read_names};
 use el_outside::Span;
+use expr_parser::{Signs, Stop, name_of, read_elims, read_expr, read_name, read_names};
 use source_tree::{Clause, Expr, Pattern, Place, Signature};
 use sqlite_items::Items;
 use std::alloc::Global;

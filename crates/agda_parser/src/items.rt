@@ -7,12 +7,12 @@ ghost use Rattle.parse_laws.specs.Parser as laws;
 ghost use Rattle.agda_grammar.specs.declared.sign.Kind.TheVariants as k;
 
 use crate::decls::{declaring, declarings, equation, last_signature};
-use crate::grown::Grown;
 use crate::group::grouped;
+use crate::grown::Grown;
 use crate::records::{last_item, record_items};
 use agda_grammar::{Entry, Kind, Mark};
-use expr_parser::{Signs, Stop, name_of, read_expr, read_name, read_typed};
 use el_outside::{Pos, Span};
+use expr_parser::{Signs, Stop, name_of, read_expr, read_name, read_typed};
 use source_tree::{Decl, File, Place};
 use sqlite_items::Items;
 use std::alloc::Global;

@@ -4,6 +4,7 @@ ghost use Rattle.agda_parser.specs.Laid as spec;
 use agda_grammar::{Kind, Mark, Sign};
 use agda_layout::Laid;
 use agda_lexer::Token;
+use el_base::Level;
 use el_outside::{Pos, Span};
 use expr_parser::sign_of;
 use source_tree::Place;
@@ -20,7 +21,7 @@ fn border(kind: Kind, pos: Pos) -> Sign
                 span: Span { start: 0, end: 0 },
                 pos,
             },
-            level: 0,
+            level: Level::zero(),
         },
     }
 }

@@ -8,9 +8,9 @@ ghost use Rattle.agda_parser.specs.Laid as laid_spec;
 use crate::items::file;
 use crate::laid::laid_signs;
 use agda_grammar::{ParseError, Sign};
-use expr_parser::{Signs, Stop, count_shallow, settle_front, settle_whole};
 use agda_layout::Laid;
 use agda_lexer::Token;
+use expr_parser::{Signs, Stop, count_shallow, settle_front, settle_whole};
 use source_tree::File;
 use std::alloc::Global;
 
@@ -66,7 +66,7 @@ fn read(alloc: Global, text: &str, signs: &[Sign]) -> Result<File, ParseError>
 ///
 /// `Unexpected` at the first token that no reading allows, where a sign of a block stands for the token behind it, or at the end
 /// of the text; `TooNested` at the first token that stands in more than 200 parentheses, braces, bodies of `λ` and right sides
-/// of arrows; the earlier of the two. Or want of memory.
+/// of arrows; the earlier of the two; or `NoMemory`.
 pub fn parse(alloc: Global, text: &str, tokens: &[Token], laid: &[Laid]) -> Result<File, ParseError>
     requires text_short { length text.now + 2 ≤ 2 ^ 32 }
     ensures { Settles file_then (file_tree text.now) text.now (laid_spec.laid_signs tokens.now laid.now) result }

@@ -9,7 +9,7 @@ use agda_grammar::{ParseError, ParseKind, Sign};
 pub fn settle_whole<T>(text: &str, signs: &[Sign], found: Result<T, Stop>) -> Result<T, ParseError>
     requires text_short { length text.now + 2 ≤ 2 ^ 32 }
     requires within { spec.LeftUpTo (length signs.now) found }
-    ensures { result ≡ spec.whole_answer text.now signs.now found }
+    ensures answer { result ≡ spec.whole_answer text.now signs.now found }
 {
     match found {
         Ok(found) => Ok(found),
@@ -20,16 +20,11 @@ pub fn settle_whole<T>(text: &str, signs: &[Sign], found: Result<T, Stop>) -> Re
 
 /// The refusal of signs of which that behind the first `count` is the first that is nested too deep, of what reading those
 /// up to it gave.
-pub fn settle_front(
-    text: &str,
-    signs: &[Sign],
-    count: usize,
-    found: Result<(), Stop>,
-) -> ParseError
+pub fn settle_front(text: &str, signs: &[Sign], count: usize, found: Result<(), Stop>) -> ParseError
     requires text_short { length text.now + 2 ≤ 2 ^ 32 }
     requires inside { count < length signs.now }
     requires within { spec.LeftUpTo (count + 1) found }
-    ensures { result ≡ spec.front_refusal text.now signs.now count found }
+    ensures answer { result ≡ spec.front_refusal text.now signs.now count found }
 {
     match found {
         Ok(()) => refusal(text, signs, signs.len() - count, ParseKind::TooNested),

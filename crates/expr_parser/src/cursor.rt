@@ -31,21 +31,23 @@ fn same_kind(a: Kind, b: Kind) -> bool
 }
 
 impl<'a> Signs<'a> {
+    /// The signs of a list, of which none is taken.
     pub fn new(rest: &'a [Sign]) -> Signs<'a>
-        ensures { result ≡ rest.now }
+        ensures value { result ≡ rest.now }
     {
         Signs { rest }
     }
 
+    /// The same signs, to be compared with later.
     pub fn copy(&self) -> Signs<'a>
-        ensures { result ≡ self.now }
+        ensures value { result ≡ self.now }
     {
         Signs { rest: self.rest }
     }
 
     /// The end of the last of the signs that were taken of those before, or `end` where there is none.
     pub fn end_since(&self, before: &Signs<'_>, end: u32) -> u32
-        ensures { result ≡ trees.last_end end (take (length before.now - length self.now) before.now) }
+        ensures value { result ≡ trees.last_end end (take (length before.now - length self.now) before.now) }
     {
         let mut last = end;
         for sign in &before.rest[..before.left().saturating_sub(self.left())] {
@@ -54,15 +56,16 @@ impl<'a> Signs<'a> {
         last
     }
 
+    /// How many signs are left.
     pub fn left(&self) -> usize
-        ensures { result ≡ length self.now }
+        ensures value { result ≡ length self.now }
     {
         self.rest.len()
     }
 
     /// Whether the next sign is of the kind.
     pub fn sees(&self, kind: Kind) -> bool
-        ensures { result ≡ spec.sees kind self.now }
+        ensures value { result ≡ spec.sees kind self.now }
     {
         match self.rest {
             [first, ..] => same_kind(first.kind, kind),
@@ -70,10 +73,10 @@ impl<'a> Signs<'a> {
         }
     }
 
-    /// Takes a sign of the kind.
+    /// Takes a sign of the kind. Any other sign, and none, stops the reading there.
     #[tactic(auto, unfolding(crate::specs::Cursor::expect, parse_laws::specs::Parser::one))]
     pub fn expect(&mut self, kind: Kind) -> Result<Mark, Stop>
-        ensures { Reads (spec.expect kind self.old) result self.new }
+        ensures reads { Reads (spec.expect kind self.old) result self.new }
     {
         match self.rest {
             [] => Err(Stop::Unexpected(0)),
@@ -88,10 +91,10 @@ impl<'a> Signs<'a> {
         }
     }
 
-    /// Nothing is left.
+    /// Reads nothing: a sign that is left stops the reading there.
     #[tactic(auto, unfolding(parse_laws::specs::Parser::at_end))]
     pub fn at_end(&mut self) -> Result<(), Stop>
-        ensures { Reads (laws.at_end self.old) result self.new }
+        ensures reads { Reads (laws.at_end self.old) result self.new }
     {
         let left = self.left();
         if left == 0 {
@@ -102,7 +105,7 @@ impl<'a> Signs<'a> {
     }
 
     /// Whether an atom that is not in parentheses comes next.
-    pub fn begins_atom(&self) -> bool
+    pub(crate) fn begins_atom(&self) -> bool
         ensures { result ≡ spec.sees_atom self.now }
     {
         match self.rest {
@@ -113,13 +116,13 @@ impl<'a> Signs<'a> {
 
     /// Whether names, at least one, and then a colon come next.
     pub fn colon_follows(&self) -> bool
-        ensures { result ≡ spec.colon_follows self.now }
+        ensures value { result ≡ spec.colon_follows self.now }
     {
         colon_follows(self.rest)
     }
 
     /// Whether a name and `=` come next.
-    pub fn equals_follows(&self) -> bool
+    pub(crate) fn equals_follows(&self) -> bool
         ensures { result ≡ spec.equals_follows self.now }
     {
         match self.rest {

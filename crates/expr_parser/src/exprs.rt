@@ -77,7 +77,7 @@ fn one_typed(
     }
 }
 
-/// Reads typed binders while they come, after those found.
+/// Reads typed binders, `(x y : A)` or `{x y : A}`, while they come, after those found. `turns` is more than the signs that are left.
 #[cycle(expr)]
 pub fn read_typed(
     alloc: Global,
@@ -86,7 +86,7 @@ pub fn read_typed(
     turns: usize,
     mut found: Items<Binder>,
 ) -> Result<Items<Binder>, Stop>
-    ensures { Reads (spec.more_typed text.now turns (spec.expr text.now turns) found signs.old) result signs.new }
+    ensures reads { Reads (spec.more_typed text.now turns (spec.expr text.now turns) found signs.old) result signs.new }
 {
     for _turn in 0..turns {
         match one_typed(alloc, text, signs, turns)? {
@@ -570,8 +570,13 @@ fn level(alloc: Global, text: &str, signs: &mut Signs<'_>, turns: usize) -> Resu
 
 /// Reads an expression. `turns` is more than the signs that are left.
 #[cycle(expr)]
-pub fn read_expr(alloc: Global, text: &str, signs: &mut Signs<'_>, turns: usize) -> Result<Expr, Stop>
-    ensures { Reads (spec.expr text.now turns signs.old) result signs.new }
+pub fn read_expr(
+    alloc: Global,
+    text: &str,
+    signs: &mut Signs<'_>,
+    turns: usize,
+) -> Result<Expr, Stop>
+    ensures reads { Reads (spec.expr text.now turns signs.old) result signs.new }
 {
     if turns == 0 {
         return Err(Stop::Unexpected(signs.left()));

@@ -30,8 +30,9 @@ fn text_at(text: &str, span: Span) -> &str
     }
 }
 
+/// The name that a sign is: the bytes of the text at its span, and its place.
 pub fn name_of(alloc: Global, text: &str, mark: Mark) -> Result<Name, NoMemory>
-    ensures { IfOk result (λ x. x ≡ spec.name_of text.now mark) }
+    ensures name { IfOk result (λ x. x ≡ spec.name_of text.now mark) }
 {
     Ok(Name {
         text: Text::from_str(alloc, text_at(text, mark.place.span))?,

@@ -15,7 +15,7 @@ use std::alloc::Global;
 /// Reads a name.
 #[tactic(auto, unfolding(crate::specs::Syntax::name))]
 pub fn read_name(alloc: Global, text: &str, signs: &mut Signs<'_>) -> Result<Name, Stop>
-    ensures { Reads (spec.name text.now signs.old) result signs.new }
+    ensures reads { Reads (spec.name text.now signs.old) result signs.new }
 {
     let mark = signs.expect(Kind::Name)?;
     Ok(name_of(alloc, text, mark)?)
@@ -32,7 +32,7 @@ fn one_name(alloc: Global, text: &str, signs: &mut Signs<'_>) -> Result<Option<N
     }
 }
 
-/// Reads names while they come, after the first.
+/// Reads names while they come, after those found. `turns` is more than the signs that are left.
 #[tactic(auto, unfolding(crate::specs::Syntax::names))]
 pub fn read_names(
     alloc: Global,
@@ -41,7 +41,7 @@ pub fn read_names(
     turns: usize,
     mut found: Items<Name>,
 ) -> Result<Items<Name>, Stop>
-    ensures { Reads (spec.names text.now turns found signs.old) result signs.new }
+    ensures reads { Reads (spec.names text.now turns found signs.old) result signs.new }
 {
     for _turn in 0..turns {
         match one_name(alloc, text, signs)? {

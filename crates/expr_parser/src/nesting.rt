@@ -91,9 +91,9 @@ fn pass(depth: &mut Depth, kind: Kind) -> Result<(), AllocError>
     Ok(())
 }
 
-/// How many signs stand before the first that is nested too deep.
+/// How many signs stand before the first that is nested too deep: all, where none is.
 pub fn count_shallow(alloc: Global, signs: &[Sign]) -> Result<usize, AllocError>
-    ensures { IfOk result (λ n. n ≡ spec.shallow spec.origin signs.now) }
+    ensures count { IfOk result (λ n. n ≡ spec.shallow spec.origin signs.now) }
 {
     let mut depth = Depth {
         next: 0,

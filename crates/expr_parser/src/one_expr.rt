@@ -64,7 +64,7 @@ fn read(alloc: Global, text: &str, signs: &[Sign]) -> Result<Expr, ParseError>
 /// # Errors
 ///
 /// `Unexpected` at the first token that no reading allows, or at the end of the text; `TooNested` at the first token that
-/// stands in more than 200 parentheses, braces, bodies of `λ` and right sides of arrows; the earlier of the two. Or want of memory.
+/// stands in more than 200 parentheses, braces, bodies of `λ` and right sides of arrows; the earlier of the two; or `NoMemory`.
 pub fn parse_expr(alloc: Global, text: &str, tokens: &[Token]) -> Result<Expr, ParseError>
     requires text_short { length text.now + 2 ≤ 2 ^ 32 }
     ensures { Settles then (tree text.now) text.now (token_spec.signs_of tokens.now) result }

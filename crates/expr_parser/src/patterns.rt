@@ -156,7 +156,7 @@ fn one_elim(
     }
 }
 
-/// Reads eliminations while they come.
+/// Reads eliminations, the patterns and projections of a left side, while they come. `turns` is more than the signs that are left.
 #[cycle(pattern)]
 pub fn read_elims(
     alloc: Global,
@@ -164,7 +164,7 @@ pub fn read_elims(
     signs: &mut Signs<'_>,
     turns: usize,
 ) -> Result<Items<Pattern>, Stop>
-    ensures { Reads (spec.elims text.now turns (spec.pattern text.now turns) signs.old) result signs.new }
+    ensures reads { Reads (spec.elims text.now turns (spec.pattern text.now turns) signs.old) result signs.new }
 {
     let mut found = Items::new(alloc);
     for _turn in 0..turns {

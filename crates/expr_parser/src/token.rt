@@ -3,6 +3,7 @@ ghost use Rattle.expr_parser.specs.Token as spec;
 
 use agda_grammar::{Kind, Mark, Sign};
 use agda_lexer::{Sym, Token, TokenKind, Word};
+use el_base::Level;
 use source_tree::Place;
 use std::alloc::{AllocError, Global};
 
@@ -58,18 +59,18 @@ fn kind_of(kind: TokenKind) -> Kind
     }
 }
 
-fn level_of(kind: TokenKind) -> u32
+fn level_of(kind: TokenKind) -> Level
     ensures { result ≡ spec.level_of kind }
 {
     match kind {
         TokenKind::SetLevel(level) => level,
-        _ => 0,
+        _ => Level::zero(),
     }
 }
 
 /// What the grammar sees of a token.
 pub fn sign_of(token: &Token) -> Sign
-    ensures { result ≡ spec.sign_of token.now }
+    ensures value { result ≡ spec.sign_of token.now }
 {
     Sign {
         kind: kind_of(token.kind),

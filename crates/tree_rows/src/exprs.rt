@@ -1,4 +1,5 @@
 use crate::lines::Lines;
+use el_base::Level;
 use source_tree::{Arg, Binder, Expr, FieldValue, Place};
 use sqlite_items::Items;
 use std::alloc::AllocError;
@@ -47,11 +48,11 @@ pub fn put_expr(lines: &mut Lines, expr: &Expr) -> Result<(), AllocError> {
     }
 }
 
-fn put_level(lines: &mut Lines, place: Place, level: u32) -> Result<(), AllocError> {
+fn put_level(lines: &mut Lines, place: Place, level: Level) -> Result<(), AllocError> {
     lines.begin("Expr::SetLevel")?;
     lines.place(place)?;
     lines.text.push_str(" ")?;
-    lines.number(level)?;
+    lines.number(level.number())?;
     lines.end()
 }
 
