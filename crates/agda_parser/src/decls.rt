@@ -6,6 +6,8 @@ ghost use Rattle.expr_parser.specs.Cursor as signs_spec;
 ghost use Rattle.parse_laws.specs.Parser as laws;
 ghost use Rattle.agda_grammar.specs.declared.sign.Kind.TheVariants as k;
 
+use crate::grown::Grown;
+use crate::lines::{Line, read_lines};
 use agda_grammar::{Kind, Mark};
 use el_outside::Span;
 use expr_parser::{Signs, Stop, name_of, read_elims, read_expr, read_name, read_names};
@@ -66,22 +68,32 @@ fn one_declaring(
     }
 }
 
+impl Line for Signature {
+    ghost use Rattle.agda_parser.specs.DeclarationSyntax.{one_declaring};
+
+    ghost next = { one_declaring };
+
+    fn read_next(
+        alloc: Global,
+        text: &str,
+        signs: &mut Signs<'_>,
+        turns: usize,
+    ) -> Result<Option<Signature>, Stop> {
+        one_declaring(alloc, text, signs, turns)
+    }
+}
+
+#[tactic(auto, unfolding(crate::specs::DeclarationSyntax::more_declaring))]
 fn more_declaring(
     alloc: Global,
     text: &str,
     signs: &mut Signs<'_>,
     turns: usize,
-    mut found: Items<Signature>,
+    found: Grown<Signature>,
 ) -> Result<Items<Signature>, Stop>
     ensures { Reads (spec.more_declaring text.now turns found signs.old) result signs.new }
 {
-    for _turn in 0..turns {
-        match one_declaring(alloc, text, signs, turns)? {
-            Some(signature) => found.push(signature)?,
-            None => return Ok(found),
-        }
-    }
-    Ok(found)
+    Ok(read_lines(alloc, text, signs, turns, found)?.into_items())
 }
 
 #[tactic(auto, unfolding(crate::specs::DeclarationSyntax::inner_declarings))]
@@ -93,10 +105,10 @@ fn inner_declarings(
 ) -> Result<Items<Signature>, Stop>
     ensures { Reads (spec.inner_declarings text.now turns signs.old) result signs.new }
 {
-    let mut found = Items::new(alloc);
     if signs.sees(Kind::BlockClose) {
-        Ok(found)
+        Ok(Items::new(alloc))
     } else {
+        let mut found = Grown::new(alloc);
         found.push(declaring(alloc, text, signs, turns)?)?;
         more_declaring(alloc, text, signs, turns, found)
     }

@@ -1,5 +1,6 @@
 ghost use Rattle.std.specs.Prelude.{◌≡◌, [], ◌∷◌, ◌++◌, OnOk};
 
+use sqlite_items::Items;
 use std::alloc::{AllocError, Global};
 use std::marker::Model;
 
@@ -34,6 +35,12 @@ impl<T> Grown<T> {
     {
         let Grown { items } = self;
         items
+    }
+
+    pub fn into_items(self) -> Items<T>
+        ensures { result ≡ self }
+    {
+        Items::from_vec(self.into_vec())
     }
 }
 

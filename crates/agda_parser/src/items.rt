@@ -9,6 +9,7 @@ ghost use Rattle.agda_grammar.specs.declared.sign.Kind.TheVariants as k;
 use crate::decls::{declaring, declarings, equation, last_signature};
 use crate::group::grouped;
 use crate::grown::Grown;
+use crate::lines::{Line, read_lines};
 use crate::records::{last_item, record_items};
 use agda_grammar::{Entry, Kind, Mark};
 use el_outside::{Pos, Span};
@@ -136,22 +137,32 @@ fn one_item(
     }
 }
 
+impl Line for Entry {
+    ghost use Rattle.agda_parser.specs.DeclarationSyntax.{one_item};
+
+    ghost next = { one_item };
+
+    fn read_next(
+        alloc: Global,
+        text: &str,
+        signs: &mut Signs<'_>,
+        turns: usize,
+    ) -> Result<Option<Entry>, Stop> {
+        one_item(alloc, text, signs, turns)
+    }
+}
+
+#[tactic(auto, unfolding(crate::specs::DeclarationSyntax::more_items))]
 fn more_items(
     alloc: Global,
     text: &str,
     signs: &mut Signs<'_>,
     turns: usize,
-    mut found: Grown<Entry>,
+    found: Grown<Entry>,
 ) -> Result<Grown<Entry>, Stop>
     ensures { Reads (spec.more_items text.now turns found signs.old) result signs.new }
 {
-    for _turn in 0..turns {
-        match one_item(alloc, text, signs, turns)? {
-            Some(entry) => found.push(entry)?,
-            None => return Ok(found),
-        }
-    }
-    Ok(found)
+    read_lines(alloc, text, signs, turns, found)
 }
 
 #[tactic(auto, unfolding(crate::specs::DeclarationSyntax::inner_items))]

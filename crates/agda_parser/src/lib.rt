@@ -9,6 +9,7 @@ mod grown;
 mod items;
 mod laid;
 pub mod laws;
+mod lines;
 mod one_file;
 mod records;
 
