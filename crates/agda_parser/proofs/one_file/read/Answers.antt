@@ -24,11 +24,11 @@ pub returns-then-count-signs : goal.returns-then-count-signs
 returns-then-count-signs c =
     let more : c.in-Some.turns ≡ length c.args.signs.now + 1 = first_of (search rules, grind (arith, common_steps)) in
     let deep : shallow origin c.args.signs.now ≡ c.in_ok-count.count = first_of (search rules, grind (arith, common_steps)) in
-    rw c.settle_front.ensures
+    rw c.settle_front.ensures.answer
     (front_settles file_then (file_tree c.args.text.now) (whole_file c.args.text.now) file_size (whole_file_good c.args.text.now) (file_ends c.args.text.now) (whole_file_read c.args.text.now) c.args.text.now c.in-Some.turns c.args.signs.now c.in_ok-count.count c.check_file-found.result deep (omega arith) (omega (arith, more)) c.check_file-found.ensures)
 
 pub returns-else-count-signs : goal.returns-else-count-signs
 returns-else-count-signs c =
     let more : c.in-Some.turns ≡ length c.args.signs.now + 1 = first_of (search rules, grind (arith, common_steps)) in
-    rw c.settle_whole.ensures
-    (whole_settles file_then (file_tree c.args.text.now) (whole_file c.args.text.now) file_size (whole_file_good c.args.text.now) (file_ends c.args.text.now) (whole_file_read c.args.text.now) c.args.text.now c.in-Some.turns c.args.signs.now c.read_file-found.result (omega (arith, more)) (omega (arith, none_deep origin c.args.signs.now, c.in_ok-count.ensures)) c.read_file-found.ensures)
+    rw c.settle_whole.ensures.answer
+    (whole_settles file_then (file_tree c.args.text.now) (whole_file c.args.text.now) file_size (whole_file_good c.args.text.now) (file_ends c.args.text.now) (whole_file_read c.args.text.now) c.args.text.now c.in-Some.turns c.args.signs.now c.read_file-found.result (omega (arith, more)) (omega (arith, none_deep origin c.args.signs.now, c.in_ok-count.ensures.count)) c.read_file-found.ensures)

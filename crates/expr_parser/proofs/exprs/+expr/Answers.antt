@@ -119,8 +119,8 @@ binders-returns t c =
 
 pub read_expr-returns-then-turns-eq0 : goal.read_expr-returns-then-turns-eq0
 unfolding expr
-read_expr-returns-then-turns-eq0 t c = λ _. let none : c.args.turns ≡ 0 = omega arith in rw (none, c.left.ensures) refl
+read_expr-returns-then-turns-eq0 t c = record { reads = λ _. let none : c.args.turns ≡ 0 = omega arith in rw (none, c.left.ensures.value) refl }
 
 pub read_expr-returns : goal.read_expr-returns
 unfolding expr
-read_expr-returns t c = rw (deeper (λ n. expr c.args.text.now n c.args.signs.now) c.args.turns (omega arith)) c.level.ensures
+read_expr-returns t c = record { reads = rw (deeper (λ n. expr c.args.text.now n c.args.signs.now) c.args.turns (omega arith)) c.level.ensures }

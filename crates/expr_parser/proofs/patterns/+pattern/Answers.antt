@@ -35,7 +35,7 @@ read_elims-returns t c =
 
 pub pattern-returns-then-turns-eq0 : goal.pattern-returns-then-turns-eq0
 unfolding pattern
-pattern-returns-then-turns-eq0 t c = λ _. let none : c.args.turns ≡ 0 = omega arith in rw (none, c.left.ensures) refl
+pattern-returns-then-turns-eq0 t c = λ _. let none : c.args.turns ≡ 0 = omega arith in rw (none, c.left.ensures.value) refl
 
 pub pattern-returns : goal.pattern-returns
 unfolding pattern
