@@ -1,4 +1,4 @@
-ghost use Rattle.std.specs.Prelude.{◌≡◌, List, [], ◌∷◌, ◌++◌, IfOk};
+ghost use Rattle.std.specs.Prelude.{◌≡◌, List, ◌∷◌, ◌++◌, IfOk};
 ghost use Rattle.agda_grammar.specs.Groups as spec;
 ghost use Rattle.agda_grammar.specs.declared.entry.Entry.{Entry as Item};
 ghost use Rattle.agda_grammar.specs.declared.entry.Entry.TheVariants as n;
@@ -71,26 +71,17 @@ fn after_decl(done: &mut Items<Decl>, last: Decl, clause: Clause) -> Result<Decl
     }
 }
 
-/// Puts the declaration before an item that is no clause to those that are done.
-fn apart(
-    alloc: Global,
-    done: &mut Items<Decl>,
-    last: Decl,
-    entry: Entry,
-) -> Result<Decl, AllocError>
-    ensures { IfOk result (λ x. (done.new ≡ done.old ++ last ∷ []) × (x ≡ spec.alone entry)) }
-{
-    done.push(last)?;
-    Ok(alone(alloc, entry))
-}
-
 /// Puts an item to the declaration before it where they are one, and else that to those that are done.
 fn next(alloc: Global, done: &mut Items<Decl>, last: Decl, entry: Entry) -> Result<Decl, AllocError>
     ensures { IfOk result (λ x. (es : List Item) → done.old ++ spec.grouped_from last (entry ∷ es) ≡ done.new ++ spec.grouped_from x es) }
 {
     match entry {
         Entry::Clause(clause) => after_decl(done, last, clause),
-        other => apart(alloc, done, last, other),
+        other => {
+            let next = alone(alloc, other);
+            done.push(last)?;
+            Ok(next)
+        }
     }
 }
 

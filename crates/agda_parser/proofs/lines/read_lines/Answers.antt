@@ -1,7 +1,8 @@
-use Rattle.std.proofs.Common.{rules, arith}
+use Rattle.std.proofs.Common.{◌≡◌, Some, Ok, rules, arith}
 use Rattle.std.proofs.lemmas.Grind.{common_steps}
 use Rattle.parse_laws.specs.Parser.{many_from}
 use Rattle.expr_parser.proofs.Turns.{one_more, no_more}
+use Rattle.agda_parser.proofs.LineSteps.{turned}
 use Rattle.agda_parser.proofs.lines.read_lines.Goals as goal
 
 pub loop-turn-init : goal.loop-turn-init
@@ -20,10 +21,9 @@ returns-in-None g c =
     first_of (search rules, grind (arith, common_steps))
 
 pub loop-turn-preserved : goal.loop-turn-preserved
-unfolding many_from
 loop-turn-preserved g c =
-    let e = one_more (λ n. many_from (λ _. g.T.Line.next c.args.text.now c.args.turns) n c.loop-turn.found c.loop-turn.signs) _ c.loop-turn._turn c.loop-turn-test.true in
-    first_of (search rules, grind (arith, common_steps))
+    let is : g.T.Line.next c.args.text.now c.args.turns c.loop-turn.signs ≡ Ok (Some c.in-Some.line, c.read_next.new.signs) = first_of (search rules, grind (arith, common_steps)) in
+    turned (g.T.Line.next c.args.text.now c.args.turns) c.args.turns c.loop-turn._turn c.loop-turn.found c.push.new.self c.in-Some.line c.loop-turn.signs c.read_next.new.signs _ c.loop-turn-test.true c.loop-turn.invariant is c.in_ok-push-in-Some.ensures
 
 pub returns : goal.returns
 unfolding many_from
