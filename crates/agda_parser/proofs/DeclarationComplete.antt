@@ -3,23 +3,23 @@ use Rattle.std.proofs.Common.{◌≡◌, ℕ, zero, suc, ◌≤◌, ◌+◌, ◌
 use Rattle.std.proofs.lemmas.List.{append-nil}
 use Rattle.source_tree.specs.declared.decl.Signature.{Signature}
 use Rattle.source_tree.specs.declared.decl.RecordItem.{RecordItem}
-use Rattle.agda_parser.specs.declared.sign.Kind.TheVariants as k
-use Rattle.agda_parser.specs.declared.sign.Mark.{Mark}
-use Rattle.agda_parser.specs.declared.entry.Entry.{Entry}
-use Rattle.agda_parser.specs.Names.{name_of}
-use Rattle.agda_parser.specs.Trees.{tok}
-use Rattle.agda_parser.specs.Signs.{Input, same_kind, is, sees, expect, begins_atom, names_colon, colon_follows}
-use Rattle.agda_parser.specs.Grammar.{MoreTyped, Derivation, more_typed_then, more_typed_tree, then}
-use Rattle.agda_parser.specs.Patterns.{Eliminations, eliminations_then, eliminations_tree}
-use Rattle.agda_parser.specs.Declarations.{Declaring, Declares, MoreDeclaring, LastDeclaring, NextDeclaring, Declarings, NoDeclaring, SomeDeclaring, Equation, Without, With, Induction, IsInductive, IsCoinductive, MoreFieldBlocks, LastFieldBlock, NextFieldBlock, RecordItems, NoRecordItem, FieldsAlone, OfInduction, OfConstructor, InductionFirst, ConstructorFirst, NotPublic, IsPublic, ItemDerivation, PostulateItem, SignatureItem, ClauseItem, OpenItem, DataItem, RecordItemOf, MoreItems, LastItem, NextItem, Header, NoHeader, Names, NamesQualified, FileDerivation, EmptyFile, SomeFile, declaring_then, more_declaring_then, declarings_then, equation_then, induction_then, field_blocks_then, record_items_then, item_then, more_items_then, header_then, file_then, clause, field_block, declaring_tree, more_declaring_tree, declarings_tree, equation_tree, induction_tree, constructor_tree, field_blocks_tree, record_items_tree, item_tree, more_items_tree, file_tree}
-use Rattle.agda_parser.specs.Syntax.{begins_typed, name, names, expr, more_typed}
-use Rattle.agda_parser.specs.PatternSyntax.{begins_elim, elims}
+use Rattle.agda_grammar.specs.declared.sign.Kind.TheVariants as k
+use Rattle.agda_grammar.specs.declared.sign.Mark.{Mark}
+use Rattle.agda_grammar.specs.declared.entry.Entry.{Entry}
+use Rattle.agda_grammar.specs.Names.{name_of}
+use Rattle.agda_grammar.specs.Signs.{Input, tok}
+use Rattle.expr_parser.specs.Cursor.{same_kind, is, sees, expect, begins_atom, names_colon, colon_follows}
+use Rattle.agda_grammar.specs.Grammar.{MoreTyped, Derivation, more_typed_then, more_typed_tree, then}
+use Rattle.agda_grammar.specs.Patterns.{Eliminations, eliminations_then, eliminations_tree}
+use Rattle.agda_grammar.specs.Declarations.{Declaring, Declares, MoreDeclaring, LastDeclaring, NextDeclaring, Declarings, NoDeclaring, SomeDeclaring, Equation, Without, With, Induction, IsInductive, IsCoinductive, MoreFieldBlocks, LastFieldBlock, NextFieldBlock, RecordItems, NoRecordItem, FieldsAlone, OfInduction, OfConstructor, InductionFirst, ConstructorFirst, NotPublic, IsPublic, ItemDerivation, PostulateItem, SignatureItem, ClauseItem, OpenItem, DataItem, RecordItemOf, MoreItems, LastItem, NextItem, Header, NoHeader, Names, NamesQualified, FileDerivation, EmptyFile, SomeFile, declaring_then, more_declaring_then, declarings_then, equation_then, induction_then, field_blocks_then, record_items_then, item_then, more_items_then, header_then, file_then, clause, field_block, declaring_tree, more_declaring_tree, declarings_tree, equation_tree, induction_tree, constructor_tree, field_blocks_tree, record_items_tree, item_tree, more_items_tree, file_tree}
+use Rattle.expr_parser.specs.Syntax.{begins_typed, name, names, expr, more_typed}
+use Rattle.expr_parser.specs.PatternSyntax.{begins_elim, elims}
 use Rattle.agda_parser.specs.DeclarationSyntax.{is_induction, declaring, one_declaring, more_declaring, inner_declarings, declarings, right_side, sides, equation, induction, constructor_item, field_item, one_field_item, more_field_items, second_item, record_items, postulate_item, publicity, open_item, data_item, record_item, named_item, item, one_item, more_items, inner_items, module_name, header, file, whole_file}
 use Rattle.parse_laws.specs.Parser.{one, next_is, many_from, with_taken, at_end}
 use Rattle.parse_laws.proofs.Good.{taken_front}
-use Rattle.agda_parser.proofs.Complete.{size, more_typed_size, Stops, names_colon_yes, names_read, more_typed_read, read}
-use Rattle.agda_parser.proofs.PatternComplete.{eliminations_size, eliminations_plain, eliminations_read}
-use Rattle.agda_parser.proofs.Fronts.{front, eliminations_front}
+use Rattle.expr_parser.proofs.Complete.{size, more_typed_size, Stops, names_colon_yes, names_read, more_typed_read, read}
+use Rattle.expr_parser.proofs.PatternComplete.{eliminations_size, eliminations_plain, eliminations_read}
+use Rattle.expr_parser.proofs.Fronts.{front, eliminations_front}
 use Rattle.agda_parser.proofs.DeclarationRules.{right_then, right_tree}
 
 -- ---- how many turns are enough

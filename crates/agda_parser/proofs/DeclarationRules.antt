@@ -10,29 +10,29 @@ use Rattle.source_tree.specs.declared.decl.RecordItem.TheVariants as r
 use Rattle.source_tree.specs.declared.decl.Decl.TheVariants as d
 use Rattle.source_tree.specs.declared.decl.File.{File}
 use Rattle.source_tree.specs.Places.{joined}
-use Rattle.agda_parser.specs.declared.sign.Kind.TheVariants as k
-use Rattle.agda_parser.specs.declared.sign.Mark.{Mark}
-use Rattle.agda_parser.specs.declared.sign.Sign.{Sign}
-use Rattle.agda_parser.specs.declared.entry.Entry.{Entry}
-use Rattle.agda_parser.specs.declared.entry.Entry.TheVariants as entry
-use Rattle.agda_parser.specs.Names.{name_of}
-use Rattle.agda_parser.specs.Trees.{tok}
-use Rattle.agda_parser.specs.Signs.{Input, same_kind, is, expect, colon_follows}
-use Rattle.agda_parser.specs.Grammar.{Derivation, then, tree}
-use Rattle.agda_parser.specs.Patterns.{Eliminations, eliminations_then, eliminations_tree}
-use Rattle.agda_parser.specs.Declarations.{Declaring, Declares, MoreDeclaring, LastDeclaring, NextDeclaring, Declarings, NoDeclaring, SomeDeclaring, Equation, Without, With, Induction, IsInductive, IsCoinductive, MoreFieldBlocks, LastFieldBlock, NextFieldBlock, RecordItems, NoRecordItem, FieldsAlone, OfInduction, OfConstructor, InductionFirst, ConstructorFirst, NotPublic, IsPublic, ItemDerivation, PostulateItem, SignatureItem, ClauseItem, OpenItem, DataItem, RecordItemOf, MoreItems, LastItem, NextItem, Header, NoHeader, Names, NamesQualified, FileDerivation, EmptyFile, SomeFile, declaring_then, more_declaring_then, declarings_then, equation_then, induction_then, field_blocks_then, record_items_then, publicity_then, item_then, more_items_then, header_then, file_then, last_signature, last_item, named_place, signature, clause, field_block, text_place, declaring_tree, more_declaring_tree, declarings_tree, equation_tree, induction_tree, constructor_tree, field_blocks_tree, record_items_tree, item_tree, more_items_tree, file_tree}
-use Rattle.agda_parser.specs.Groups.{grouped}
-use Rattle.agda_parser.specs.Syntax.{name, names, one_name, expr}
-use Rattle.agda_parser.specs.PatternSyntax.{elims, pattern}
+use Rattle.agda_grammar.specs.declared.sign.Kind.TheVariants as k
+use Rattle.agda_grammar.specs.declared.sign.Mark.{Mark}
+use Rattle.agda_grammar.specs.declared.sign.Sign.{Sign}
+use Rattle.agda_grammar.specs.declared.entry.Entry.{Entry}
+use Rattle.agda_grammar.specs.declared.entry.Entry.TheVariants as entry
+use Rattle.agda_grammar.specs.Names.{name_of}
+use Rattle.agda_grammar.specs.Signs.{Input, tok}
+use Rattle.expr_parser.specs.Cursor.{same_kind, is, expect, colon_follows}
+use Rattle.agda_grammar.specs.Grammar.{Derivation, then, tree}
+use Rattle.agda_grammar.specs.Patterns.{Eliminations, eliminations_then, eliminations_tree}
+use Rattle.agda_grammar.specs.Declarations.{Declaring, Declares, MoreDeclaring, LastDeclaring, NextDeclaring, Declarings, NoDeclaring, SomeDeclaring, Equation, Without, With, Induction, IsInductive, IsCoinductive, MoreFieldBlocks, LastFieldBlock, NextFieldBlock, RecordItems, NoRecordItem, FieldsAlone, OfInduction, OfConstructor, InductionFirst, ConstructorFirst, NotPublic, IsPublic, ItemDerivation, PostulateItem, SignatureItem, ClauseItem, OpenItem, DataItem, RecordItemOf, MoreItems, LastItem, NextItem, Header, NoHeader, Names, NamesQualified, FileDerivation, EmptyFile, SomeFile, declaring_then, more_declaring_then, declarings_then, equation_then, induction_then, field_blocks_then, record_items_then, publicity_then, item_then, more_items_then, header_then, file_then, last_signature, last_item, named_place, signature, clause, field_block, text_place, declaring_tree, more_declaring_tree, declarings_tree, equation_tree, induction_tree, constructor_tree, field_blocks_tree, record_items_tree, item_tree, more_items_tree, file_tree}
+use Rattle.agda_grammar.specs.Groups.{grouped}
+use Rattle.expr_parser.specs.Syntax.{name, names, one_name, expr}
+use Rattle.expr_parser.specs.PatternSyntax.{elims, pattern}
 use Rattle.agda_parser.specs.DeclarationSyntax.{is_induction, declaring, one_declaring, more_declaring, inner_declarings, declarings, right_side, sides, equation, induction, constructor_item, field_item, one_field_item, more_field_items, second_item, record_items, postulate_item, publicity, open_item, data_item, record_item, named_item, item, one_item, more_items, inner_items, module_name, header, file, whole_file}
 use Rattle.parse_laws.specs.Parser.{◌>>=◌, pure, one, with_taken, many_from}
 use Rattle.parse_laws.proofs.Good.{Language, Family, Good, Seq, bind_good, pure_good, weaken, shorten, choose_good, taken_good, ended_good, good_up, bind_up, taken_up}
 use Rattle.parse_laws.proofs.Many.{AllOf, Item, Behind, many_good, optional_good}
 use Rattle.parse_laws.proofs.Look.{lined, lined_longer, look_good}
-use Rattle.agda_parser.proofs.Steps.{both, single, nothing, As, long_as, all_of, Is, expect_good}
-use Rattle.agda_parser.proofs.NameRules.{name_good, names_good, all_names, name_is, over_colon, names_up, lined_count, left_eats}
-use Rattle.agda_parser.proofs.Rules.{Derives, more_typed_good, all_typed, expr_good}
-use Rattle.agda_parser.proofs.PatternRules.{all_elims, elims_good, elims_eats, pattern_good, pattern_eats}
+use Rattle.expr_parser.proofs.Steps.{both, single, nothing, As, long_as, all_of, Is, expect_good}
+use Rattle.expr_parser.proofs.NameRules.{name_good, names_good, all_names, name_is, over_colon, names_up, lined_count, left_eats}
+use Rattle.expr_parser.proofs.Rules.{Derives, more_typed_good, all_typed, expr_good}
+use Rattle.expr_parser.proofs.PatternRules.{all_elims, elims_good, elims_eats, pattern_good, pattern_eats}
 
 -- ---- derivations of blocks and right sides, put together
 

@@ -6,9 +6,9 @@ use Rattle.source_tree.specs.declared.decl.Clause.{Clause}
 use Rattle.source_tree.specs.declared.decl.Decl.{Decl}
 use Rattle.source_tree.specs.declared.decl.Decl.TheVariants as d
 use Rattle.source_tree.specs.Places.{joined}
-use Rattle.agda_parser.specs.declared.entry.Entry.{Entry}
-use Rattle.agda_parser.specs.declared.entry.Entry.TheVariants as entry
-use Rattle.agda_parser.specs.Groups.{is_of, grouped_from}
+use Rattle.agda_grammar.specs.declared.entry.Entry.{Entry}
+use Rattle.agda_grammar.specs.declared.entry.Entry.TheVariants as entry
+use Rattle.agda_grammar.specs.Groups.{is_of, grouped_from}
 
 pub parted : (done new : List Decl) (p : Place) (s : Signature) (cs : List Clause) (c : Clause) → is_of s.names c ≡ false → new ≡ done ++ d.Function p s cs ∷ []
     → (es : List Entry) → done ++ grouped_from (d.Function p s cs) (entry.Clause c ∷ es) ≡ new ++ grouped_from (d.Clause c) es

@@ -1,16 +1,5 @@
-pub mod Turns
 pub mod GroupSteps
-pub mod Steps
-pub mod NameRules
-pub mod Rules
-pub mod PatternRules
+pub mod LineSteps
 pub mod DeclarationRules
 pub mod DeclarationComplete
-pub mod Fronts
-pub mod Complete
-pub mod PatternComplete
-pub mod Verdict
 pub mod Whole
-pub mod Depths
-pub mod FileDepths
-pub mod OneAnswer

@@ -9,17 +9,17 @@ use Rattle.source_tree.specs.declared.decl.RecordItem.TheVariants as r
 use Rattle.source_tree.specs.declared.decl.Decl.TheVariants as d
 use Rattle.source_tree.specs.declared.decl.File.{File}
 use Rattle.source_tree.specs.Places.{joined}
-use Rattle.agda_parser.specs.declared.sign.Kind.TheVariants as k
-use Rattle.agda_parser.specs.declared.sign.Mark.{Mark}
-use Rattle.agda_parser.specs.declared.sign.Sign.{Sign}
-use Rattle.agda_parser.specs.declared.entry.Entry.{Entry}
-use Rattle.agda_parser.specs.declared.entry.Entry.TheVariants as entry
-use Rattle.agda_parser.specs.Names.{name_of}
-use Rattle.agda_parser.specs.Signs.{is, expect, colon_follows}
-use Rattle.agda_parser.specs.Syntax.{name, names, expr, more_typed}
-use Rattle.agda_parser.specs.PatternSyntax.{pattern, elims}
-use Rattle.agda_parser.specs.Declarations.{last_signature, last_item, named_place, signature, clause, field_block, text_place}
-use Rattle.agda_parser.specs.Groups.{grouped}
+use Rattle.agda_grammar.specs.declared.sign.Kind.TheVariants as k
+use Rattle.agda_grammar.specs.declared.sign.Mark.{Mark}
+use Rattle.agda_grammar.specs.declared.sign.Sign.{Sign}
+use Rattle.agda_grammar.specs.declared.entry.Entry.{Entry}
+use Rattle.agda_grammar.specs.declared.entry.Entry.TheVariants as entry
+use Rattle.agda_grammar.specs.Names.{name_of}
+use Rattle.expr_parser.specs.Cursor.{is, expect, colon_follows}
+use Rattle.expr_parser.specs.Syntax.{name, names, expr, more_typed}
+use Rattle.expr_parser.specs.PatternSyntax.{pattern, elims}
+use Rattle.agda_grammar.specs.Declarations.{last_signature, last_item, named_place, signature, clause, field_block, text_place}
+use Rattle.agda_grammar.specs.Groups.{grouped}
 use Rattle.parse_laws.specs.Parser.{Parser, ◌>>=◌, ◌>>◌, pure, choose, optional, many_from, with_taken, ended}
 
 abbrev pub is_induction : Sign → Bool

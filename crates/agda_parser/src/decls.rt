@@ -1,19 +1,16 @@
 ghost use Rattle.std.specs.Prelude.{◌≡◌, [], ◌∷◌, ◌-◌, length, take, IfOk};
 ghost use Rattle.agda_parser.specs.DeclarationSyntax as spec;
-ghost use Rattle.agda_parser.specs.Declarations as trees;
-ghost use Rattle.agda_parser.specs.Signs.{Reads};
-ghost use Rattle.agda_parser.specs.Signs as signs_spec;
+ghost use Rattle.agda_grammar.specs.Declarations as trees;
+ghost use Rattle.expr_parser.specs.Cursor.{Reads};
+ghost use Rattle.expr_parser.specs.Cursor as signs_spec;
 ghost use Rattle.parse_laws.specs.Parser as laws;
-ghost use Rattle.agda_parser.specs.declared.sign.Kind.TheVariants as k;
+ghost use Rattle.agda_grammar.specs.declared.sign.Kind.TheVariants as k;
 
-use crate::cursor::Signs;
-use crate::exprs::expr;
-use crate::name::name_of;
-use crate::names::{name, names};
-use crate::patterns::elims;
-use crate::sign::{Kind, Mark};
-use crate::stop::Stop;
+use crate::grown::Grown;
+use crate::lines::{Line, read_lines};
+use agda_grammar::{Kind, Mark};
 use el_outside::Span;
+use expr_parser::{Signs, Stop, name_of, read_elims, read_expr, read_name, read_names};
 use source_tree::{Clause, Expr, Pattern, Place, Signature};
 use sqlite_items::Items;
 use std::alloc::Global;
@@ -39,13 +36,13 @@ pub fn declaring(
 ) -> Result<Signature, Stop>
     ensures { Reads (spec.declaring text.now turns signs.old) result signs.new }
 {
-    let first = name(alloc, text, signs)?;
+    let first = read_name(alloc, text, signs)?;
     let start = first.place;
     let mut found = Items::new(alloc);
     found.push(first)?;
-    let all = names(alloc, text, signs, turns, found)?;
+    let all = read_names(alloc, text, signs, turns, found)?;
     signs.expect(Kind::Colon)?;
-    let ty = expr(alloc, text, signs, turns)?;
+    let ty = read_expr(alloc, text, signs, turns)?;
     let place = start.to(ty.place());
     Ok(Signature {
         place,
@@ -71,22 +68,32 @@ fn one_declaring(
     }
 }
 
+impl Line for Signature {
+    ghost use Rattle.agda_parser.specs.DeclarationSyntax.{one_declaring};
+
+    ghost next = { one_declaring };
+
+    fn read_next(
+        alloc: Global,
+        text: &str,
+        signs: &mut Signs<'_>,
+        turns: usize,
+    ) -> Result<Option<Signature>, Stop> {
+        one_declaring(alloc, text, signs, turns)
+    }
+}
+
+#[tactic(auto, unfolding(crate::specs::DeclarationSyntax::more_declaring))]
 fn more_declaring(
     alloc: Global,
     text: &str,
     signs: &mut Signs<'_>,
     turns: usize,
-    mut found: Items<Signature>,
+    found: Grown<Signature>,
 ) -> Result<Items<Signature>, Stop>
     ensures { Reads (spec.more_declaring text.now turns found signs.old) result signs.new }
 {
-    for _turn in 0..turns {
-        match one_declaring(alloc, text, signs, turns)? {
-            Some(signature) => found.push(signature)?,
-            None => return Ok(found),
-        }
-    }
-    Ok(found)
+    Ok(read_lines(alloc, text, signs, turns, found)?.into_items())
 }
 
 #[tactic(auto, unfolding(crate::specs::DeclarationSyntax::inner_declarings))]
@@ -98,10 +105,10 @@ fn inner_declarings(
 ) -> Result<Items<Signature>, Stop>
     ensures { Reads (spec.inner_declarings text.now turns signs.old) result signs.new }
 {
-    let mut found = Items::new(alloc);
     if signs.sees(Kind::BlockClose) {
-        Ok(found)
+        Ok(Items::new(alloc))
     } else {
+        let mut found = Grown::new(alloc);
         found.push(declaring(alloc, text, signs, turns)?)?;
         more_declaring(alloc, text, signs, turns, found)
     }
@@ -134,7 +141,7 @@ fn right_side(
 {
     if signs.sees(Kind::Equals) {
         signs.expect(Kind::Equals)?;
-        Ok(Some(expr(alloc, text, signs, turns)?))
+        Ok(Some(read_expr(alloc, text, signs, turns)?))
     } else {
         Ok(None)
     }
@@ -150,7 +157,7 @@ fn sides(
 ) -> Result<(Items<Pattern>, Option<Expr>), Stop>
     ensures { Reads (spec.sides text.now turns signs.old) result signs.new }
 {
-    let patterns = elims(alloc, text, signs, turns)?;
+    let patterns = read_elims(alloc, text, signs, turns)?;
     let right = right_side(alloc, text, signs, turns)?;
     Ok((patterns, right))
 }

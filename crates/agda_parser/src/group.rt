@@ -1,10 +1,11 @@
 ghost use Rattle.std.specs.Prelude.{◌≡◌, List, ◌∷◌, ◌++◌, IfOk};
-ghost use Rattle.agda_parser.specs.Groups as spec;
-ghost use Rattle.agda_parser.specs.declared.entry.Entry.{Entry as Item};
-ghost use Rattle.agda_parser.specs.declared.entry.Entry.TheVariants as n;
+ghost use Rattle.agda_grammar.specs.Groups as spec;
+ghost use Rattle.agda_grammar.specs.declared.entry.Entry.{Entry as Item};
+ghost use Rattle.agda_grammar.specs.declared.entry.Entry.TheVariants as n;
 ghost use Rattle.source_tree.specs.declared.decl.Decl.TheVariants as d;
 
-use crate::entry::{Entry, Grown};
+use crate::grown::Grown;
+use agda_grammar::Entry;
 use source_tree::{Clause, Decl, Name, Place, Signature};
 use sqlite_items::Items;
 use std::alloc::{AllocError, Global};
@@ -55,23 +56,31 @@ fn after_function(
     }
 }
 
+/// Puts a clause to the declaration before it where that is the function of its name, and else that to those that are done.
+fn after_decl(done: &mut Items<Decl>, last: Decl, clause: Clause) -> Result<Decl, AllocError>
+    ensures { IfOk result (λ x. (es : List Item) → done.old ++ spec.grouped_from last (n.Clause clause ∷ es) ≡ done.new ++ spec.grouped_from x es) }
+{
+    match last {
+        Decl::Function(place, signature, clauses) => {
+            after_function(done, place, signature, clauses, clause)
+        }
+        other => {
+            done.push(other)?;
+            Ok(Decl::Clause(clause))
+        }
+    }
+}
+
 /// Puts an item to the declaration before it where they are one, and else that to those that are done.
 fn next(alloc: Global, done: &mut Items<Decl>, last: Decl, entry: Entry) -> Result<Decl, AllocError>
     ensures { IfOk result (λ x. (es : List Item) → done.old ++ spec.grouped_from last (entry ∷ es) ≡ done.new ++ spec.grouped_from x es) }
 {
     match entry {
-        Entry::Clause(clause) => match last {
-            Decl::Function(place, signature, clauses) => {
-                after_function(done, place, signature, clauses, clause)
-            }
-            other => {
-                done.push(other)?;
-                Ok(Decl::Clause(clause))
-            }
-        },
+        Entry::Clause(clause) => after_decl(done, last, clause),
         other => {
+            let next = alone(alloc, other);
             done.push(last)?;
-            Ok(alone(alloc, other))
+            Ok(next)
         }
     }
 }

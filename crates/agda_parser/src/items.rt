@@ -1,22 +1,19 @@
 ghost use Rattle.std.specs.Prelude.{◌≡◌, [], ◌∷◌, ◌+◌, ◌≤◌, ◌^◌, length};
 ghost use Rattle.agda_parser.specs.DeclarationSyntax as spec;
-ghost use Rattle.agda_parser.specs.Declarations as trees;
-ghost use Rattle.agda_parser.specs.Signs.{Reads};
-ghost use Rattle.agda_parser.specs.Signs as signs_spec;
+ghost use Rattle.agda_grammar.specs.Declarations as trees;
+ghost use Rattle.expr_parser.specs.Cursor.{Reads};
+ghost use Rattle.expr_parser.specs.Cursor as signs_spec;
 ghost use Rattle.parse_laws.specs.Parser as laws;
-ghost use Rattle.agda_parser.specs.declared.sign.Kind.TheVariants as k;
+ghost use Rattle.agda_grammar.specs.declared.sign.Kind.TheVariants as k;
 
-use crate::cursor::Signs;
 use crate::decls::{declaring, declarings, equation, last_signature};
-use crate::entry::{Entry, Grown};
-use crate::exprs::{expr, more_typed};
 use crate::group::grouped;
-use crate::name::name_of;
-use crate::names::name;
+use crate::grown::Grown;
+use crate::lines::{Line, read_lines};
 use crate::records::{last_item, record_items};
-use crate::sign::{Kind, Mark};
-use crate::stop::Stop;
+use agda_grammar::{Entry, Kind, Mark};
 use el_outside::{Pos, Span};
+use expr_parser::{Signs, Stop, name_of, read_expr, read_name, read_typed};
 use source_tree::{Decl, File, Place};
 use sqlite_items::Items;
 use std::alloc::Global;
@@ -67,10 +64,10 @@ fn data_item(alloc: Global, text: &str, signs: &mut Signs<'_>, turns: usize) -> 
     ensures { Reads (spec.data_item text.now turns signs.old) result signs.new }
 {
     let word = signs.expect(Kind::Data)?;
-    let name = name(alloc, text, signs)?;
-    let binders = more_typed(alloc, text, signs, turns, Items::new(alloc))?;
+    let name = read_name(alloc, text, signs)?;
+    let binders = read_typed(alloc, text, signs, turns, Items::new(alloc))?;
     signs.expect(Kind::Colon)?;
-    let ty = expr(alloc, text, signs, turns)?;
+    let ty = read_expr(alloc, text, signs, turns)?;
     let end = signs.expect(Kind::Where)?;
     let found = declarings(alloc, text, signs, turns)?;
     let place = named_place(
@@ -91,10 +88,10 @@ fn record_item(
     ensures { Reads (spec.record_item text.now turns signs.old) result signs.new }
 {
     let word = signs.expect(Kind::Record)?;
-    let name = name(alloc, text, signs)?;
-    let binders = more_typed(alloc, text, signs, turns, Items::new(alloc))?;
+    let name = read_name(alloc, text, signs)?;
+    let binders = read_typed(alloc, text, signs, turns, Items::new(alloc))?;
     signs.expect(Kind::Colon)?;
-    let ty = expr(alloc, text, signs, turns)?;
+    let ty = read_expr(alloc, text, signs, turns)?;
     let end = signs.expect(Kind::Where)?;
     signs.expect(Kind::BlockOpen)?;
     let found = record_items(alloc, text, signs, turns)?;
@@ -140,22 +137,32 @@ fn one_item(
     }
 }
 
+impl Line for Entry {
+    ghost use Rattle.agda_parser.specs.DeclarationSyntax.{one_item};
+
+    ghost next = { one_item };
+
+    fn read_next(
+        alloc: Global,
+        text: &str,
+        signs: &mut Signs<'_>,
+        turns: usize,
+    ) -> Result<Option<Entry>, Stop> {
+        one_item(alloc, text, signs, turns)
+    }
+}
+
+#[tactic(auto, unfolding(crate::specs::DeclarationSyntax::more_items))]
 fn more_items(
     alloc: Global,
     text: &str,
     signs: &mut Signs<'_>,
     turns: usize,
-    mut found: Grown<Entry>,
+    found: Grown<Entry>,
 ) -> Result<Grown<Entry>, Stop>
     ensures { Reads (spec.more_items text.now turns found signs.old) result signs.new }
 {
-    for _turn in 0..turns {
-        match one_item(alloc, text, signs, turns)? {
-            Some(entry) => found.push(entry)?,
-            None => return Ok(found),
-        }
-    }
-    Ok(found)
+    read_lines(alloc, text, signs, turns, found)
 }
 
 #[tactic(auto, unfolding(crate::specs::DeclarationSyntax::inner_items))]

@@ -1,35 +1,18 @@
-//! Reads the syntax tree of an expression from its tokens, by descent: what the grammar allows, and nothing else, and where it
-//! does not, the first token with which no text of the grammar begins so.
+//! Reads the syntax tree of a file from its tokens and their layout: declarations by descent, over the reading of expressions and
+//! patterns, and then each clause to its signature. What the grammar has is read, and nothing else; where it has nothing, the
+//! answer is the first token with which no text of the grammar begins so.
 #![tactic(auto)]
 
-mod answer;
-mod bracket;
-mod cursor;
 mod decls;
-mod entry;
-mod error;
-mod exprs;
-#[cfg(test)]
-mod file_tests;
-mod form;
 mod group;
+mod grown;
 mod items;
+mod laid;
 pub mod laws;
-mod name;
-mod names;
-mod nesting;
-mod one_expr;
+mod lines;
 mod one_file;
-mod patterns;
-mod quantifier;
 mod records;
-mod refuse;
-mod sign;
-mod stop;
-#[cfg(test)]
-mod tests;
-mod token;
 
-pub use error::{ParseError, ParseKind};
-pub use one_expr::parse_expr;
+pub use agda_grammar::{ParseError, ParseKind};
+pub use expr_parser::parse_expr;
 pub use one_file::parse;

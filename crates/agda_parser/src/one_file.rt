@@ -1,20 +1,16 @@
 ghost use Rattle.std.specs.Prelude.{◌≡◌, ◌+◌, ◌≤◌, ◌^◌, length};
 ghost use Rattle.agda_parser.specs.DeclarationSyntax as spec;
-ghost use Rattle.agda_parser.specs.Signs.{Reads, Answers, Checks};
-ghost use Rattle.agda_parser.specs.Declarations.{file_then, file_tree};
-ghost use Rattle.agda_parser.specs.Reading.{Settles};
-ghost use Rattle.agda_parser.specs.Tokens as tokens_spec;
+ghost use Rattle.expr_parser.specs.Cursor.{Reads, Answers, Checks};
+ghost use Rattle.agda_grammar.specs.Declarations.{file_then, file_tree};
+ghost use Rattle.agda_grammar.specs.Reading.{Settles};
+ghost use Rattle.agda_parser.specs.Laid as laid_spec;
 
-use crate::answer::{front_refusal, whole_answer};
-use crate::cursor::Signs;
-use crate::error::ParseError;
 use crate::items::file;
-use crate::nesting::shallow;
-use crate::sign::Sign;
-use crate::stop::Stop;
-use crate::token::laid_signs;
+use crate::laid::laid_signs;
+use agda_grammar::{ParseError, Sign};
 use agda_layout::Laid;
 use agda_lexer::Token;
+use expr_parser::{Signs, Stop, count_shallow, settle_front, settle_whole};
 use source_tree::File;
 use std::alloc::Global;
 
@@ -54,13 +50,13 @@ fn read(alloc: Global, text: &str, signs: &[Sign]) -> Result<File, ParseError>
     let Some(turns) = signs.len().checked_add(1) else {
         return Err(ParseError::NoMemory);
     };
-    let count = shallow(alloc, signs)?;
+    let count = count_shallow(alloc, signs)?;
     if count < signs.len() {
         let found = check_file(alloc, text, &signs[..count + 1], turns);
-        Err(front_refusal(text, signs, count, found))
+        Err(settle_front(text, signs, count, found))
     } else {
         let found = read_file(alloc, text, signs, turns);
-        whole_answer(text, signs, found)
+        settle_whole(text, signs, found)
     }
 }
 
@@ -70,10 +66,10 @@ fn read(alloc: Global, text: &str, signs: &[Sign]) -> Result<File, ParseError>
 ///
 /// `Unexpected` at the first token that no reading allows, where a sign of a block stands for the token behind it, or at the end
 /// of the text; `TooNested` at the first token that stands in more than 200 parentheses, braces, bodies of `λ` and right sides
-/// of arrows; the earlier of the two. Or want of memory.
+/// of arrows; the earlier of the two; or `NoMemory`.
 pub fn parse(alloc: Global, text: &str, tokens: &[Token], laid: &[Laid]) -> Result<File, ParseError>
     requires text_short { length text.now + 2 ≤ 2 ^ 32 }
-    ensures { Settles file_then (file_tree text.now) text.now (tokens_spec.laid_signs tokens.now laid.now) result }
+    ensures { Settles file_then (file_tree text.now) text.now (laid_spec.laid_signs tokens.now laid.now) result }
 {
     let signs = laid_signs(alloc, tokens, laid)?;
     read(alloc, text, &signs)

@@ -1,16 +1,16 @@
 ghost use Rattle.std.specs.Prelude.{◌≡◌, [], ◌∷◌};
 ghost use Rattle.agda_parser.specs.DeclarationSyntax as spec;
-ghost use Rattle.agda_parser.specs.Declarations as trees;
-ghost use Rattle.agda_parser.specs.Signs.{Reads, is};
-ghost use Rattle.agda_parser.specs.Signs as signs_spec;
+ghost use Rattle.agda_grammar.specs.Declarations as trees;
+ghost use Rattle.expr_parser.specs.Cursor.{Reads, is};
+ghost use Rattle.expr_parser.specs.Cursor as signs_spec;
 ghost use Rattle.parse_laws.specs.Parser as laws;
-ghost use Rattle.agda_parser.specs.declared.sign.Kind.TheVariants as k;
+ghost use Rattle.agda_grammar.specs.declared.sign.Kind.TheVariants as k;
 
-use crate::cursor::Signs;
 use crate::decls::{declarings, last_signature};
-use crate::name::name_of;
-use crate::sign::Kind;
-use crate::stop::Stop;
+use crate::grown::Grown;
+use crate::lines::{Line, read_lines};
+use agda_grammar::Kind;
+use expr_parser::{Signs, Stop, name_of};
 use source_tree::{Place, RecordItem};
 use sqlite_items::Items;
 use std::alloc::Global;
@@ -104,22 +104,32 @@ fn one_field_item(
     }
 }
 
+impl Line for RecordItem {
+    ghost use Rattle.agda_parser.specs.DeclarationSyntax.{one_field_item};
+
+    ghost next = { one_field_item };
+
+    fn read_next(
+        alloc: Global,
+        text: &str,
+        signs: &mut Signs<'_>,
+        turns: usize,
+    ) -> Result<Option<RecordItem>, Stop> {
+        one_field_item(alloc, text, signs, turns)
+    }
+}
+
+#[tactic(auto, unfolding(crate::specs::DeclarationSyntax::more_field_items))]
 fn more_field_items(
     alloc: Global,
     text: &str,
     signs: &mut Signs<'_>,
     turns: usize,
-    mut found: Items<RecordItem>,
+    found: Grown<RecordItem>,
 ) -> Result<Items<RecordItem>, Stop>
     ensures { Reads (spec.more_field_items text.now turns found signs.old) result signs.new }
 {
-    for _turn in 0..turns {
-        match one_field_item(alloc, text, signs, turns)? {
-            Some(item) => found.push(item)?,
-            None => return Ok(found),
-        }
-    }
-    Ok(found)
+    Ok(read_lines(alloc, text, signs, turns, found)?.into_items())
 }
 
 fn constructor_or_field(
@@ -163,14 +173,14 @@ fn after_induction(
 ) -> Result<Items<RecordItem>, Stop>
     ensures { Reads (spec.second_item text.now turns (is k.Constructor) (spec.constructor_item text.now turns) first signs.old) result signs.new }
 {
-    let mut found = Items::new(alloc);
+    let mut found = Grown::new(alloc);
     found.push(first)?;
     if signs.sees(Kind::BlockNext) {
         signs.expect(Kind::BlockNext)?;
         found.push(constructor_or_field(alloc, text, signs, turns)?)?;
         more_field_items(alloc, text, signs, turns, found)
     } else {
-        Ok(found)
+        Ok(found.into_items())
     }
 }
 
@@ -185,14 +195,14 @@ fn after_constructor(
 ) -> Result<Items<RecordItem>, Stop>
     ensures { Reads (spec.second_item text.now turns spec.is_induction (spec.induction text.now turns) first signs.old) result signs.new }
 {
-    let mut found = Items::new(alloc);
+    let mut found = Grown::new(alloc);
     found.push(first)?;
     if signs.sees(Kind::BlockNext) {
         signs.expect(Kind::BlockNext)?;
         found.push(induction_or_field(alloc, text, signs, turns)?)?;
         more_field_items(alloc, text, signs, turns, found)
     } else {
-        Ok(found)
+        Ok(found.into_items())
     }
 }
 
@@ -215,7 +225,7 @@ pub fn record_items(
     } else if signs.sees(Kind::BlockClose) {
         Ok(Items::new(alloc))
     } else {
-        let mut found = Items::new(alloc);
+        let mut found = Grown::new(alloc);
         found.push(field_item(alloc, text, signs, turns)?)?;
         more_field_items(alloc, text, signs, turns, found)
     }

@@ -1,5 +1,5 @@
 use Rattle.std.proofs.Common.{◌≡◌, drop}
-use Rattle.agda_parser.specs.Declarations.{last_signature}
+use Rattle.agda_grammar.specs.Declarations.{last_signature}
 use Rattle.agda_parser.proofs.decls.last_signature.Given as goal
 
 abbrev pub invariant-loop-signature : goal.invariant-loop-signature

@@ -1,5 +1,5 @@
 use Rattle.std.proofs.Common.{rules, ◌≡◌, false}
-use Rattle.agda_parser.specs.Groups.{is_of}
+use Rattle.agda_grammar.specs.Groups.{is_of}
 use Rattle.agda_parser.proofs.GroupSteps.{parted}
 use Rattle.agda_parser.proofs.group.after_function.Goals as goal
 

@@ -3,7 +3,7 @@ use Rattle.std.proofs.lemmas.List.{append-nil}
 use Rattle.std.proofs.lemmas.Iterator.Adapters.{YieldsList-from_vec}
 use Rattle.std.proofs.lemmas.Iterator.Consumers.{YieldsList-end}
 use Rattle.std.specs.Vec.Iter.{into_iter_items, into_iter_len}
-use Rattle.agda_parser.specs.Groups.{grouped}
+use Rattle.agda_grammar.specs.Groups.{grouped}
 use Rattle.agda_parser.proofs.group.grouped.Goals as goal
 
 pub returns-in_ok-push-in-Some-last-2 : goal.returns-in_ok-push-in-Some-last-2

@@ -1,6 +1,6 @@
 use Rattle.std.proofs.Common.{◌≡◌, ◌++◌, List}
-use Rattle.agda_parser.specs.Groups.{grouped, grouped_behind}
-use Rattle.agda_parser.specs.declared.entry.Entry.{Entry}
+use Rattle.agda_grammar.specs.Groups.{grouped, grouped_behind}
+use Rattle.agda_grammar.specs.declared.entry.Entry.{Entry}
 use Rattle.agda_parser.proofs.group.grouped.Given as goal
 
 abbrev pub invariant-loop-entry : goal.invariant-loop-entry

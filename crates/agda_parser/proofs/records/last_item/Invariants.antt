@@ -1,5 +1,5 @@
 use Rattle.std.proofs.Common.{◌≡◌, drop}
-use Rattle.agda_parser.specs.Declarations.{last_item}
+use Rattle.agda_grammar.specs.Declarations.{last_item}
 use Rattle.agda_parser.proofs.records.last_item.Given as goal
 
 abbrev pub invariant-loop-item : goal.invariant-loop-item

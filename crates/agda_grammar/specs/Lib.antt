@@ -1,0 +1,11 @@
+pub mod Signs
+pub mod Names
+pub mod Trees
+pub mod Grammar
+pub mod Patterns
+pub mod Groups
+pub mod Declarations
+pub mod Nesting
+pub mod Depths
+pub mod FileDepths
+pub mod Reading

@@ -1,7 +1,0 @@
-use Rattle.std.proofs.Common.{◌≡◌, ◌-◌}
-use Rattle.agda_parser.specs.Syntax.{names, one_name}
-use Rattle.parse_laws.specs.Parser.{many_from}
-use Rattle.agda_parser.proofs.names.names.Given as goal
-
-abbrev pub invariant-loop-turn : goal.invariant-loop-turn
-invariant-loop-turn l = names l.text l.turns l.fn.found l.fn.signs ≡ many_from (λ _. one_name l.text) (l.turns - l._turn) l.found l.signs

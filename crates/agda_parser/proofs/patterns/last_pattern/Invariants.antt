@@ -1,6 +1,0 @@
-use Rattle.std.proofs.Common.{◌≡◌, drop}
-use Rattle.agda_parser.specs.Patterns.{last_pattern}
-use Rattle.agda_parser.proofs.patterns.last_pattern.Given as goal
-
-abbrev pub invariant-loop-pattern : goal.invariant-loop-pattern
-invariant-loop-pattern l = last_pattern l.last (drop l.pattern-index l.patterns) ≡ last_pattern l.fn.place l.patterns

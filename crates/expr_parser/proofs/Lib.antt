@@ -1,0 +1,10 @@
+pub mod Turns
+pub mod Steps
+pub mod NameRules
+pub mod Rules
+pub mod PatternRules
+pub mod Fronts
+pub mod Complete
+pub mod PatternComplete
+pub mod Verdict
+pub mod Whole

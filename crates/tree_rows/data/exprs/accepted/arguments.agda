@@ -1,0 +1,1 @@
+f x {y} {z = e} .p .R.p (g x) ? _ Set R.f record {}

@@ -1,0 +1,1 @@
+forall x -> \ y -> x

@@ -1,0 +1,1 @@
+record { f = x → y ; g = λ z → z }

@@ -1,0 +1,3 @@
+f : A
+open R
+f = e

@@ -1,0 +1,3 @@
+postulate
+  x y : A
+  z : B

@@ -1,0 +1,3 @@
+module A.B where
+postulate
+  x : A

@@ -1,0 +1,3 @@
+record R : Set where
+  coinductive
+  field x : A

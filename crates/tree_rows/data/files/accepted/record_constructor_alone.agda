@@ -1,0 +1,3 @@
+record R : Set where
+  constructor c
+  field x : A

@@ -1,0 +1,4 @@
+record R : Set where
+  constructor c
+  coinductive
+  field x : A

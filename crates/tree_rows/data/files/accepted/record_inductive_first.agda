@@ -1,0 +1,6 @@
+record R : Set where
+  inductive
+  constructor c
+  field
+    x : A
+  field y : B

@@ -1,0 +1,2 @@
+record R (x : A) : Set where
+  field

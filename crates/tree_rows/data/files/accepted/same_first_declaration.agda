@@ -1,0 +1,3 @@
+f : A
+open R public
+f = e

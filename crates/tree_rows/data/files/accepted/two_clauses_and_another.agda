@@ -1,0 +1,4 @@
+f : A
+f x = e
+f y = e
+g z = e

@@ -1,0 +1,3 @@
+record R : Set where
+  inductive
+  coinductive

@@ -1,0 +1,4 @@
+record R : Set where
+  inductive
+  constructor c
+  inductive

@@ -1,0 +1,1 @@
+open R public public

@@ -1,0 +1,2 @@
+postulate
+  x : A B : C
