@@ -1,6 +1,5 @@
 -- Lists of results and of binders, one item further.
-use Rattle.std.proofs.Common.{◌≡◌, ◌<◌, ◌≤◌, ℕ, zero, suc, ◌+◌, List, [], ◌∷◌, ◌++◌, map, drop, take, slice_get, Some, length, get_or, refl, sym, ap, ◌∙◌, arith, Ok}
-use Rattle.std.proofs.lemmas.Option.{slice_get_within}
+use Rattle.std.proofs.Common.{◌≡◌, ◌<◌, ◌≤◌, ℕ, zero, suc, ◌+◌, List, [], ◌∷◌, ◌++◌, map, drop, length, get_or, refl, sym, ap, ◌∙◌, arith, Ok}
 use Rattle.scope_check.specs.Answers.{Checked, and_then, each_from}
 use Rattle.scope_check.specs.Exprs.{BinderMeaning, Locals, binders_from}
 
@@ -37,14 +36,3 @@ module _ {A : Type 0} (f : A → BinderMeaning) (xs : List A) (i : ℕ) (ls : Lo
   pub binders_end : (found : List _) → length xs ≤ i → binders_from found (map f (drop i xs)) ls ≡ Ok (found, ls)
   unfolding binders_from
   binders_end found le = ap (λ (l : List A). binders_from found (map f l) ls) (drop_end xs i le)
-
-pub none_left : {A : Type 0} (xs : List A) → length xs < 1 → xs ≡ []
-none_left [] lt = refl
-none_left (x ∷ xs) lt = absurd (omega arith)
-
-pub take_at : {A : Type 0} (xs : List A) (i : ℕ) (x : A) → slice_get xs i ≡ Some x → take (i + 1) xs ≡ take i xs ++ x ∷ []
-take_at [] i x e = absurd (omega (arith, slice_get_within [] i x e))
-take_at (y ∷ xs) zero x e = cc
-take_at (y ∷ xs) (suc i) x e =
-    let n : suc i + 1 ≡ suc (i + 1) = omega arith in
-    ap (λ (m : ℕ). take m (y ∷ xs)) n ∙ ap (λ (l : List _). y ∷ l) (take_at xs i x e)

@@ -7,8 +7,9 @@ use Rattle.source_tree.specs.declared.expr.FieldValue.{FieldValue, fold_out-Fiel
 use Rattle.source_tree.specs.declared.expr.Arg.TheOpen.{Expr-F, Arg-F, Binder-F}
 use Rattle.source_tree.specs.declared.pattern.Pattern.{Pattern, fold_out-Pattern, out-Pattern, map-Pattern}
 use Rattle.source_tree.specs.declared.pattern.Pattern.TheOpen.{Pattern-F}
-use Rattle.scope_check.specs.Mentions.{Texts, all_of, arg_step, binder_step, expr_step, value_step, pattern_step, in_expr, in_arg, in_binder, in_value, in_pattern, expr_in, arg_in, binder_in, value_in, pattern_in}
+use Rattle.scope_check.specs.Mentions.{all_of, arg_step, binder_step, expr_step, value_step, pattern_step, in_expr, in_arg, in_binder, in_value, in_pattern, expr_in, arg_in, binder_in, value_in, pattern_in}
 use Rattle.scope_check.proofs.Loops.{drop_next, drop_end}
+use Rattle.scope_table.specs.Known.{Texts}
 
 pub expr_at : (e : Expr) → in_expr e ≡ expr_in (out-Expr e)
 unfolding in_expr in_arg in_binder in_value

@@ -8,9 +8,8 @@ use Rattle.source_tree.specs.declared.pattern.Pattern.{Pattern, fold_out-Pattern
 use Rattle.source_tree.specs.declared.pattern.Pattern.TheOpen.{Pattern-F}
 use Rattle.scope_check.specs.declared.depth.Depth.{Depth}
 use Rattle.scope_check.specs.Answers.{and_then}
-use Rattle.scope_check.specs.Known.{Known}
+use Rattle.scope_table.specs.Known.{Known, Texts}
 use Rattle.scope_check.specs.Exprs.{Locals}
-use Rattle.scope_check.specs.Mentions.{Texts}
 use Rattle.scope_check.specs.Patterns.{PatternMeaning, absurd_step, is_absurd, absurd_in, con_named, variables_of, variables_named, variables_step, variables, variables_in, pattern_step, pattern, pattern_of, pattern_named, pattern_in, patterns_from, inside}
 use Rattle.scope_check.proofs.Loops.{drop_next, drop_end}
 
