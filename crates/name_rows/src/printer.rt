@@ -174,7 +174,7 @@ impl Printer {
             ResolvedExpr::Def(_, def) => self.number("d", def.number()),
             ResolvedExpr::Family(_, family) => self.number("t", family.number()),
             ResolvedExpr::Con(_, con) => self.number("c", con.number()),
-            ResolvedExpr::SetLevel(_, level) => self.number("Set", *level),
+            ResolvedExpr::SetLevel(_, level) => self.number("Set", level.number()),
             ResolvedExpr::Hole(_) => self.text("?"),
             ResolvedExpr::Underscore(_) => self.text("_"),
             ResolvedExpr::Record(_, all) => {

@@ -1,4 +1,5 @@
 use core_terms::{ConId, DefId, FamId, FieldId, NameId};
+use el_base::Level;
 use source_tree::Place;
 use sqlite_items::{Boxed, Items};
 
@@ -34,7 +35,7 @@ pub enum ResolvedExpr {
     /// A data or record type.
     Family(Place, FamId),
     Con(Place, ConId),
-    SetLevel(Place, u32),
+    SetLevel(Place, Level),
     Hole(Place),
     Underscore(Place),
     /// `record { f = e ; g = e' }`. Its labels are names: whether they are those of a record's fields is not asked here.

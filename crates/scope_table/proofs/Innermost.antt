@@ -6,7 +6,8 @@ use Rattle.std.specs.Str.{bytes_eq}
 use Rattle.std.proofs.lemmas.Slice.Eq.{bytes_eq-Decides}
 use Rattle.std.proofs.lemmas.Bool.{eqb-true, eqb-false, eq-eqb}
 use Rattle.std.proofs.lemmas.Bool.Decides.{same_from_decides}
-use Rattle.std.proofs.lemmas.List.{get_or-set_same, get_or-set_other, get_or_append_left, length-set, length-reverse, length_push, reverse-append, append-nil}
+use Rattle.std.proofs.lemmas.List.{get_or-set_same, get_or-set_other, get_or_append_left, length-set, length-reverse, length_push, append-nil}
+use Rattle.el_base.proofs.Lists.{reverse_push}
 use Rattle.scope_table.specs.declared.locals.Variable.{Variable}
 use Rattle.scope_table.specs.Known.{place_of, with_text}
 use Rattle.scope_table.specs.Innermost.{text_of, depth_of, Hide, Kept}
@@ -63,7 +64,7 @@ position_behind x i (y ∷ ys) e = of (bytes_eq x y) e (position_behind x (i + 1
     of true e rest = absurd cc
     of false e rest = rest e ∙ ap Some n
 
--- the text x is put among the texts, at the place that it has there, or behind them
+-- the text x is put among the texts, at the place that it has there, or after them
 record Put (texts : List (List ℕ)) (x : List ℕ) : Type 0 where
   pub more : List (List ℕ)
   pub is : with_text texts x ≡ texts ++ more
@@ -225,7 +226,7 @@ module _ (texts : List (List ℕ)) (depths : List ℕ) (v : Variable) (vs : List
       back j false e is = is
 
 last_first : {A : Type 0} (xs ys : List A) (x : A) → ys ≡ xs ++ x ∷ [] → reverse ys ≡ x ∷ reverse xs
-last_first xs ys x e = ap reverse e ∙ reverse-append xs (x ∷ [])
+last_first xs ys x e = ap reverse e ∙ reverse_push xs x
 
 -- a variable is put in: x is its text, and it is at the place k among the texts, of which it may be a new one
 module _ (texts names : List (List ℕ)) (x : List ℕ) (depths more : List ℕ) (variables : List Variable) (k : ℕ) where
