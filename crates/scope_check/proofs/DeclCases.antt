@@ -13,24 +13,24 @@ use Rattle.source_tree.specs.declared.decl.Decl.{Decl}
 use Rattle.source_tree.specs.declared.decl.Decl.TheVariants as d
 use Rattle.scope_check.specs.declared.error.ScopeError.TheVariants.{Bad}
 use Rattle.scope_check.specs.declared.error.ScopeKind.TheVariants.{Duplicate, Misplaced}
-use Rattle.scope_check.specs.declared.global.GlobalId.{GlobalId}
-use Rattle.scope_check.specs.declared.global.GlobalId.TheVariants as g
-use Rattle.scope_check.specs.declared.scope.Fields.{Fields}
+use Rattle.scope_table.specs.declared.global.GlobalId.{GlobalId}
+use Rattle.scope_table.specs.declared.global.GlobalId.TheVariants as g
+use Rattle.scope_table.specs.declared.scope.Fields.{Fields}
 use Rattle.scope_check.specs.declared.holes.Holes.TheVariants as h
 use Rattle.scope_check.specs.declared.depth.Depth.TheVariants.{Outer}
-use Rattle.scope_check.specs.declared.resolved.ResolvedExpr.{ResolvedExpr}
-use Rattle.scope_check.specs.declared.resolved.ResolvedBinder.{ResolvedBinder}
-use Rattle.scope_check.specs.declared.resolved.ResolvedPattern.{ResolvedPattern}
-use Rattle.scope_check.specs.declared.resolved.ResolvedClause.{ResolvedClause}
-use Rattle.scope_check.specs.declared.resolved.ResolvedSignature.{ResolvedSignature}
-use Rattle.scope_check.specs.declared.resolved.ResolvedItem.{ResolvedItem}
-use Rattle.scope_check.specs.declared.resolved.ResolvedItem.TheVariants as ri
-use Rattle.scope_check.specs.declared.resolved.Resolved.{Resolved}
-use Rattle.scope_check.specs.declared.resolved.Resolved.TheVariants as rd
+use Rattle.resolved_tree.specs.declared.resolved.ResolvedExpr.{ResolvedExpr}
+use Rattle.resolved_tree.specs.declared.resolved.ResolvedBinder.{ResolvedBinder}
+use Rattle.resolved_tree.specs.declared.resolved.ResolvedPattern.{ResolvedPattern}
+use Rattle.resolved_tree.specs.declared.resolved.ResolvedClause.{ResolvedClause}
+use Rattle.resolved_tree.specs.declared.resolved.ResolvedSignature.{ResolvedSignature}
+use Rattle.resolved_tree.specs.declared.resolved.ResolvedItem.{ResolvedItem}
+use Rattle.resolved_tree.specs.declared.resolved.ResolvedItem.TheVariants as ri
+use Rattle.resolved_tree.specs.declared.resolved.Resolved.{Resolved}
+use Rattle.resolved_tree.specs.declared.resolved.Resolved.TheVariants as rd
 use Rattle.scope_check.specs.declared.parts.Parts.{Parts}
 use Rattle.scope_check.specs.Answers.{Checked, and_then, made, each_from, refused}
-use Rattle.scope_check.specs.Known.{Known, global_in, with_global, with_def, with_family, with_families, with_names}
-use Rattle.scope_check.specs.Mentions.{Texts, texts, in_decl, with_text, with_texts}
+use Rattle.scope_table.specs.Known.{Known, global_in, with_global, with_def, with_family, with_families, with_names, Texts, with_text, with_texts, fields_of}
+use Rattle.scope_check.specs.Mentions.{texts, in_decl}
 use Rattle.scope_check.specs.Exprs.{Locals, label, under, expr}
 use Rattle.scope_check.specs.Patterns.{patterns}
 use Rattle.scope_check.specs.Decls as spec
@@ -257,7 +257,7 @@ module _ (k : Known) (p : Place) (x : Name) (b : Bool) where
   no_record_is c.opens_field = refl
   no_record_is (c.opens_data_type {n = n} q) = ap (spec.open_record k p x b n) q
 
-  open_record_holds : (n : ℕ) → global_in k.globals x.text ≡ Some (g.Family n) → (o : Option Fields) → spec.fields_of k n ≡ o → ResolvesDecl k (d.Open p x b) (spec.open_record k p x b n o)
+  open_record_holds : (n : ℕ) → global_in k.globals x.text ≡ Some (g.Family n) → (o : Option Fields) → fields_of k n ≡ o → ResolvesDecl k (d.Open p x b) (spec.open_record k p x b n o)
   open_record_holds n q None s = c.opens_no_record q (c.opens_data_type s)
   open_record_holds n q (Some fs) s = c.opens_record q s (opens_hold x fs.first fs.names k)
 
@@ -266,7 +266,7 @@ module _ (k : Known) (p : Place) (x : Name) (b : Bool) where
   open_holds (Some (g.Def n)) q = c.opens_no_record q c.opens_postulate_or_function
   open_holds (Some (g.Con n)) q = c.opens_no_record q c.opens_constructor
   open_holds (Some (g.Field n)) q = c.opens_no_record q c.opens_field
-  open_holds (Some (g.Family n)) q = open_record_holds n q (spec.fields_of k n) refl
+  open_holds (Some (g.Family n)) q = open_record_holds n q (fields_of k n) refl
 
 -- ---- data types
 

@@ -8,22 +8,22 @@ use Rattle.source_tree.specs.declared.expr.Binder.{Binder, out-Binder, roll-Bind
 use Rattle.source_tree.specs.declared.expr.FieldValue.{FieldValue, out-FieldValue, roll-FieldValue, out-roll-FieldValue, map-FieldValue}
 use Rattle.source_tree.specs.declared.expr.Arg.TheOpen.{Expr-F, Arg-F, Binder-F, FieldValue-F}
 use Rattle.scope_check.specs.declared.error.ScopeKind.TheVariants.{Misplaced}
-use Rattle.scope_check.specs.declared.global.GlobalId.{GlobalId}
-use Rattle.scope_check.specs.declared.global.GlobalId.TheVariants as g
+use Rattle.scope_table.specs.declared.global.GlobalId.{GlobalId}
+use Rattle.scope_table.specs.declared.global.GlobalId.TheVariants as g
 use Rattle.scope_check.specs.declared.head.Head.{Head}
 use Rattle.scope_check.specs.declared.head.Head.TheVariants.{Whole, Field}
 use Rattle.scope_check.specs.declared.holes.Holes.{Holes}
 use Rattle.scope_check.specs.declared.holes.Holes.TheVariants as h
-use Rattle.scope_check.specs.declared.resolved.ResolvedExpr.{ResolvedExpr}
-use Rattle.scope_check.specs.declared.resolved.ResolvedExpr.TheVariants as r
-use Rattle.scope_check.specs.declared.resolved.ResolvedArg.{ResolvedArg, out-roll-ResolvedArg}
-use Rattle.scope_check.specs.declared.resolved.ResolvedArg.TheVariants as ra
-use Rattle.scope_check.specs.declared.resolved.ResolvedArg.TheVariants.{rolls-Plain}
-use Rattle.scope_check.specs.declared.resolved.ResolvedArg.TheOpen.{ResolvedArg-F}
-use Rattle.scope_check.specs.declared.resolved.ResolvedBinder.{ResolvedBinder}
-use Rattle.scope_check.specs.declared.resolved.ResolvedValue.{ResolvedValue}
+use Rattle.resolved_tree.specs.declared.resolved.ResolvedExpr.{ResolvedExpr}
+use Rattle.resolved_tree.specs.declared.resolved.ResolvedExpr.TheVariants as r
+use Rattle.resolved_tree.specs.declared.resolved.ResolvedArg.{ResolvedArg, out-roll-ResolvedArg}
+use Rattle.resolved_tree.specs.declared.resolved.ResolvedArg.TheVariants as ra
+use Rattle.resolved_tree.specs.declared.resolved.ResolvedArg.TheVariants.{rolls-Plain}
+use Rattle.resolved_tree.specs.declared.resolved.ResolvedArg.TheOpen.{ResolvedArg-F}
+use Rattle.resolved_tree.specs.declared.resolved.ResolvedBinder.{ResolvedBinder}
+use Rattle.resolved_tree.specs.declared.resolved.ResolvedValue.{ResolvedValue}
 use Rattle.scope_check.specs.Answers.{Checked, and_then, ◌>>=◌, made, each_from, refused}
-use Rattle.scope_check.specs.Known.{Known, place_of, global_in}
+use Rattle.scope_table.specs.Known.{Known, place_of, global_in}
 use Rattle.scope_check.specs.Exprs.{Locals, BinderMeaning, binders_from, head_of, binder_of, value_of, expr, explicit, explicit_in, projected, projected_first, whole, named_by, by_global, named, qualified, field_at, field_of, field_named, hole_at, wholly}
 use Rattle.scope_check.specs.Layers as layer
 use Rattle.scope_check.specs.ResolvesNames.{StandsForGlobal, StandsFor, StandsForField, postulate_or_function, data_or_record_type, a_constructor, a_field, not_in_scope, variable, a_global, field_in_scope, no_field_in_scope}

@@ -5,7 +5,7 @@ use Rattle.source_tree.specs.declared.expr.Arg.{Arg, fold_out-Arg, out-Arg, map-
 use Rattle.source_tree.specs.declared.expr.Binder.{Binder, fold_out-Binder, out-Binder, map-Binder}
 use Rattle.source_tree.specs.declared.expr.FieldValue.{FieldValue, fold_out-FieldValue, out-FieldValue, map-FieldValue}
 use Rattle.scope_check.specs.declared.holes.Holes.{Holes}
-use Rattle.scope_check.specs.Known.{Known}
+use Rattle.scope_table.specs.Known.{Known}
 use Rattle.source_tree.specs.declared.expr.Arg.TheOpen.{Expr-F, Arg-F, Binder-F}
 use Rattle.source_tree.specs.declared.place.Place.{Place}
 use Rattle.scope_check.specs.declared.head.Head.{Head}

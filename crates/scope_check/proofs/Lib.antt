@@ -2,12 +2,8 @@ pub mod Answered
 pub mod DeclCases
 pub mod ExprCases
 pub mod Folds
-pub mod Grown
-pub mod Innermost
 pub mod Inside
 pub mod Loops
 pub mod MentionFolds
 pub mod PatternCases
 pub mod PatternFolds
-pub mod Places
-pub mod Puts

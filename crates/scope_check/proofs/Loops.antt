@@ -1,22 +1,9 @@
 -- Lists of results and of binders, one item further.
-use Rattle.std.proofs.Common.{◌≡◌, ◌<◌, ◌≤◌, ℕ, zero, suc, ◌+◌, List, [], ◌∷◌, ◌++◌, map, drop, take, slice_get, Some, length, get_or, refl, sym, ap, ◌∙◌, arith, Ok}
-use Rattle.std.proofs.lemmas.Option.{slice_get_within}
+use Rattle.std.proofs.Common.{◌≡◌, ◌<◌, ◌≤◌, ℕ, ◌+◌, List, [], ◌∷◌, ◌++◌, map, drop, length, get_or, ap, Ok}
+use Rattle.std.proofs.lemmas.List.{drop_all}
+use Rattle.el_base.proofs.Lists.{drop_next}
 use Rattle.scope_check.specs.Answers.{Checked, and_then, each_from}
 use Rattle.scope_check.specs.Exprs.{BinderMeaning, Locals, binders_from}
-
--- what is left from an item on begins with it
-pub drop_next : {A : Type 0} (xs : List A) (i : ℕ) (x : A) → i < length xs → x ≡ get_or xs i x → drop i xs ≡ x ∷ drop (i + 1) xs
-drop_next [] i x lt e = absurd (omega arith)
-drop_next (y ∷ xs) zero x lt e = ap (λ (z : _). z ∷ xs) (sym e)
-drop_next (y ∷ xs) (suc i) x lt e =
-    let n : suc i + 1 ≡ suc (i + 1) = omega arith in
-    drop_next xs i x (omega arith) e ∙ ap (λ (m : ℕ). x ∷ drop m (y ∷ xs)) (sym n)
-
-pub drop_end : {A : Type 0} (xs : List A) (i : ℕ) → length xs ≤ i → drop i xs ≡ []
-drop_end [] zero le = refl
-drop_end [] (suc i) le = refl
-drop_end (y ∷ xs) zero le = absurd (omega arith)
-drop_end (y ∷ xs) (suc i) le = drop_end xs i (omega arith)
 
 module _ {A B : Type 0} (f : A → Checked B) (found : List B) (xs : List A) (i : ℕ) where
   pub each_next : (x : A) → i < length xs → x ≡ get_or xs i x
@@ -26,7 +13,7 @@ module _ {A B : Type 0} (f : A → Checked B) (found : List B) (xs : List A) (i 
 
   pub each_end : length xs ≤ i → each_from found (map f (drop i xs)) ≡ Ok found
   unfolding each_from
-  each_end le = ap (λ (l : List A). each_from found (map f l)) (drop_end xs i le)
+  each_end le = ap (λ (l : List A). each_from found (map f l)) (drop_all i xs le)
 
 module _ {A : Type 0} (f : A → BinderMeaning) (xs : List A) (i : ℕ) (ls : Locals) where
   pub binders_next : (x : A) (found : List _) → i < length xs → x ≡ get_or xs i x
@@ -36,15 +23,4 @@ module _ {A : Type 0} (f : A → BinderMeaning) (xs : List A) (i : ℕ) (ls : Lo
 
   pub binders_end : (found : List _) → length xs ≤ i → binders_from found (map f (drop i xs)) ls ≡ Ok (found, ls)
   unfolding binders_from
-  binders_end found le = ap (λ (l : List A). binders_from found (map f l) ls) (drop_end xs i le)
-
-pub none_left : {A : Type 0} (xs : List A) → length xs < 1 → xs ≡ []
-none_left [] lt = refl
-none_left (x ∷ xs) lt = absurd (omega arith)
-
-pub take_at : {A : Type 0} (xs : List A) (i : ℕ) (x : A) → slice_get xs i ≡ Some x → take (i + 1) xs ≡ take i xs ++ x ∷ []
-take_at [] i x e = absurd (omega (arith, slice_get_within [] i x e))
-take_at (y ∷ xs) zero x e = cc
-take_at (y ∷ xs) (suc i) x e =
-    let n : suc i + 1 ≡ suc (i + 1) = omega arith in
-    ap (λ (m : ℕ). take m (y ∷ xs)) n ∙ ap (λ (l : List _). y ∷ l) (take_at xs i x e)
+  binders_end found le = ap (λ (l : List A). binders_from found (map f l) ls) (drop_all i xs le)

@@ -1,5 +1,6 @@
 -- The texts of a tree by those of its parts.
 use Rattle.std.proofs.Common.{◌≡◌, ◌∙◌, ◌<◌, ◌≤◌, ◌+◌, List, [], ◌++◌, map, drop, length, get_or, ℕ, refl, ap}
+use Rattle.std.proofs.lemmas.List.{drop_all}
 use Rattle.source_tree.specs.declared.expr.Expr.{Expr, fold_out-Expr, out-Expr, map-Expr}
 use Rattle.source_tree.specs.declared.expr.Arg.{Arg, fold_out-Arg, out-Arg, map-Arg}
 use Rattle.source_tree.specs.declared.expr.Binder.{Binder, fold_out-Binder, out-Binder, map-Binder}
@@ -7,8 +8,9 @@ use Rattle.source_tree.specs.declared.expr.FieldValue.{FieldValue, fold_out-Fiel
 use Rattle.source_tree.specs.declared.expr.Arg.TheOpen.{Expr-F, Arg-F, Binder-F}
 use Rattle.source_tree.specs.declared.pattern.Pattern.{Pattern, fold_out-Pattern, out-Pattern, map-Pattern}
 use Rattle.source_tree.specs.declared.pattern.Pattern.TheOpen.{Pattern-F}
-use Rattle.scope_check.specs.Mentions.{Texts, all_of, arg_step, binder_step, expr_step, value_step, pattern_step, in_expr, in_arg, in_binder, in_value, in_pattern, expr_in, arg_in, binder_in, value_in, pattern_in}
-use Rattle.scope_check.proofs.Loops.{drop_next, drop_end}
+use Rattle.scope_check.specs.Mentions.{all_of, arg_step, binder_step, expr_step, value_step, pattern_step, in_expr, in_arg, in_binder, in_value, in_pattern, expr_in, arg_in, binder_in, value_in, pattern_in}
+use Rattle.el_base.proofs.Lists.{drop_next}
+use Rattle.scope_table.specs.Known.{Texts}
 
 pub expr_at : (e : Expr) → in_expr e ≡ expr_in (out-Expr e)
 unfolding in_expr in_arg in_binder in_value
@@ -75,4 +77,4 @@ module _ {A B : Type 0} (f : A → List B) (xs : List A) (i : ℕ) where
 
   pub all_end : length xs ≤ i → all_of (map f (drop i xs)) ≡ []
   unfolding all_of
-  all_end le = ap (λ (l : List A). all_of (map f l)) (drop_end xs i le)
+  all_end le = ap (λ (l : List A). all_of (map f l)) (drop_all i xs le)

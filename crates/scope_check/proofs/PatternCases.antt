@@ -10,12 +10,11 @@ use Rattle.scope_check.specs.declared.head.Head.TheVariants.{Whole, Field}
 use Rattle.scope_check.specs.declared.holes.Holes.TheVariants as h
 use Rattle.scope_check.specs.declared.depth.Depth.{Depth}
 use Rattle.scope_check.specs.declared.depth.Depth.TheVariants.{Outer, Inner}
-use Rattle.scope_check.specs.declared.resolved.ResolvedExpr.{ResolvedExpr}
-use Rattle.scope_check.specs.declared.resolved.ResolvedPattern.{ResolvedPattern}
-use Rattle.scope_check.specs.declared.resolved.ResolvedPattern.TheVariants as rp
+use Rattle.resolved_tree.specs.declared.resolved.ResolvedExpr.{ResolvedExpr}
+use Rattle.resolved_tree.specs.declared.resolved.ResolvedPattern.{ResolvedPattern}
+use Rattle.resolved_tree.specs.declared.resolved.ResolvedPattern.TheVariants as rp
 use Rattle.scope_check.specs.Answers.{Checked, and_then, ◌>>=◌, made, refused}
-use Rattle.scope_check.specs.Known.{Known, place_of}
-use Rattle.scope_check.specs.Mentions.{Texts, with_text}
+use Rattle.scope_table.specs.Known.{Known, place_of, Texts, with_text}
 use Rattle.scope_check.specs.Exprs.{Locals, label, field_named, named, qualified, whole, expr}
 use Rattle.scope_check.specs.Patterns.{PatternMeaning, con_named, pattern, patterns, patterns_from, pattern_in, pattern_named, variable, kept, dot, dotted, projection}
 use Rattle.scope_check.specs.ResolvesExprs as e

@@ -1,6 +1,6 @@
 -- The meaning of a pattern by that of its parts.
 use Rattle.std.proofs.Common.{◌≡◌, ◌∙◌, ◌<◌, ◌≤◌, ◌+◌, List, [], ◌∷◌, ◌++◌, map, drop, length, get_or, ℕ, Bool, false, ◌||◌, Option, Some, None, reverse, refl, ap, append_assoc, Ok}
-use Rattle.std.proofs.lemmas.List.{reverse-append}
+use Rattle.std.proofs.lemmas.List.{drop_all, reverse-append}
 use Rattle.std.specs.List.{list_any}
 use Rattle.source_tree.specs.declared.place.Place.{Place}
 use Rattle.source_tree.specs.declared.place.Name.{Name}
@@ -8,11 +8,10 @@ use Rattle.source_tree.specs.declared.pattern.Pattern.{Pattern, fold_out-Pattern
 use Rattle.source_tree.specs.declared.pattern.Pattern.TheOpen.{Pattern-F}
 use Rattle.scope_check.specs.declared.depth.Depth.{Depth}
 use Rattle.scope_check.specs.Answers.{and_then}
-use Rattle.scope_check.specs.Known.{Known}
+use Rattle.scope_table.specs.Known.{Known, Texts}
 use Rattle.scope_check.specs.Exprs.{Locals}
-use Rattle.scope_check.specs.Mentions.{Texts}
 use Rattle.scope_check.specs.Patterns.{PatternMeaning, absurd_step, is_absurd, absurd_in, con_named, variables_of, variables_named, variables_step, variables, variables_in, pattern_step, pattern, pattern_of, pattern_named, pattern_in, patterns_from, inside}
-use Rattle.scope_check.proofs.Loops.{drop_next, drop_end}
+use Rattle.el_base.proofs.Lists.{drop_next}
 
 any_each : (qs : List Pattern) → list_any (λ b. b) (map is_absurd qs) ≡ list_any is_absurd qs
 any_each [] = refl
@@ -79,7 +78,7 @@ module _ (k : Known) (ls : Locals) where
 
     pub patterns_end : (found : List _) → length xs ≤ i → patterns_from depth found (map (pattern k ls) (drop i xs)) seen ≡ Ok (found, seen)
     unfolding patterns_from
-    patterns_end found le = ap (λ (l : List Pattern). patterns_from depth found (map (pattern k ls) l) seen) (drop_end xs i le)
+    patterns_end found le = ap (λ (l : List Pattern). patterns_from depth found (map (pattern k ls) l) seen) (drop_all i xs le)
 
 -- ---- lists, one item further
 
@@ -88,7 +87,7 @@ module _ {A : Type 0} (f : A → Bool) (xs : List A) (i : ℕ) where
   any_next x lt e = ap (λ (l : List A). list_any f l) (drop_next xs i x lt e)
 
   pub any_end : length xs ≤ i → list_any f (drop i xs) ≡ false
-  any_end le = ap (λ (l : List A). list_any f l) (drop_end xs i le)
+  any_end le = ap (λ (l : List A). list_any f l) (drop_all i xs le)
 
 pub inside_more : (ls xs ys : Texts) → inside ls (xs ++ ys) ≡ inside (inside ls xs) ys
 inside_more ls xs ys = ap (λ (l : Texts). l ++ ls) (reverse-append xs ys) ∙ append_assoc (reverse ys) (reverse xs) ls

@@ -1,6 +1,6 @@
 -- What a declaration stands for, and what is in scope behind it, or the first refusal, as a function: what `Resolves` says, as the
 -- code goes.
-use Rattle.std.specs.Prelude.{ℕ, ◌+◌, Bool, true, false, ◌||◌, List, [], ◌∷◌, ◌++◌, map, Option, Some, None, is_some, if◌then◌else◌, slice_get, Ok, Err}
+use Rattle.std.specs.Prelude.{ℕ, ◌+◌, Bool, true, false, ◌||◌, List, [], ◌∷◌, ◌++◌, map, Option, Some, None, is_some, if◌then◌else◌, Ok, Err}
 use Rattle.std.specs.List.{list_any}
 use Rattle.std.specs.Str.{bytes_eq}
 use Rattle.source_tree.specs.declared.place.Place.{Place}
@@ -16,22 +16,22 @@ use Rattle.source_tree.specs.declared.decl.Decl.{Decl}
 use Rattle.source_tree.specs.declared.decl.Decl.TheVariants as d
 use Rattle.scope_check.specs.declared.error.ScopeError.TheVariants.{Bad}
 use Rattle.scope_check.specs.declared.error.ScopeKind.TheVariants.{NotInScope, Duplicate, Misplaced}
-use Rattle.scope_check.specs.declared.global.GlobalId.{GlobalId}
-use Rattle.scope_check.specs.declared.global.GlobalId.TheVariants as g
-use Rattle.scope_check.specs.declared.scope.Fields.{Fields}
+use Rattle.scope_table.specs.declared.global.GlobalId.{GlobalId}
+use Rattle.scope_table.specs.declared.global.GlobalId.TheVariants as g
+use Rattle.scope_table.specs.declared.scope.Fields.{Fields}
 use Rattle.scope_check.specs.declared.holes.Holes.TheVariants as h
 use Rattle.scope_check.specs.declared.depth.Depth.TheVariants.{Outer}
-use Rattle.scope_check.specs.declared.resolved.ResolvedExpr.{ResolvedExpr}
-use Rattle.scope_check.specs.declared.resolved.ResolvedClause.{ResolvedClause}
-use Rattle.scope_check.specs.declared.resolved.ResolvedSignature.{ResolvedSignature}
-use Rattle.scope_check.specs.declared.resolved.ResolvedItem.{ResolvedItem}
-use Rattle.scope_check.specs.declared.resolved.ResolvedItem.TheVariants as ri
-use Rattle.scope_check.specs.declared.resolved.Resolved.{Resolved}
-use Rattle.scope_check.specs.declared.resolved.Resolved.TheVariants as rd
+use Rattle.resolved_tree.specs.declared.resolved.ResolvedExpr.{ResolvedExpr}
+use Rattle.resolved_tree.specs.declared.resolved.ResolvedClause.{ResolvedClause}
+use Rattle.resolved_tree.specs.declared.resolved.ResolvedSignature.{ResolvedSignature}
+use Rattle.resolved_tree.specs.declared.resolved.ResolvedItem.{ResolvedItem}
+use Rattle.resolved_tree.specs.declared.resolved.ResolvedItem.TheVariants as ri
+use Rattle.resolved_tree.specs.declared.resolved.Resolved.{Resolved}
+use Rattle.resolved_tree.specs.declared.resolved.Resolved.TheVariants as rd
 use Rattle.scope_check.specs.declared.parts.Parts.{Parts}
 use Rattle.scope_check.specs.Answers.{Checked, ◌>>=◌, each_from, refused}
-use Rattle.scope_check.specs.Known.{Known, place_of, global_in, with_global, with_def, with_con, with_nameless_con, with_field, with_family, with_families, with_names}
-use Rattle.scope_check.specs.Mentions.{Texts, texts, all_of, in_decl, with_text, with_texts}
+use Rattle.scope_table.specs.Known.{Known, place_of, global_in, with_global, with_def, with_con, with_nameless_con, with_field, with_family, with_families, with_names, fields_of, Texts, with_text, with_texts}
+use Rattle.scope_check.specs.Mentions.{texts, all_of, in_decl}
 use Rattle.scope_check.specs.Exprs.{Locals, label, under, expr}
 use Rattle.scope_check.specs.Layers.{binders}
 use Rattle.scope_check.specs.Patterns.{is_absurd, inside, variables, patterns}
@@ -133,13 +133,6 @@ open_field x f y k = if is_global k y then Err (Bad x.place.pos Duplicate y) els
 unfoldable pub open_fields : Name → ℕ → Texts → Known → Checked Known
 open_fields x f [] k = Ok k
 open_fields x f (y ∷ ys) k = open_field x f y k >>= (λ m. open_fields x (f + 1) ys m)
-
-abbrev pub record_fields : Option (Option Fields) → Option Fields
-record_fields (Some o) = o
-record_fields None = None
-
-abbrev pub fields_of : Known → ℕ → Option Fields
-fields_of k n = record_fields (slice_get k.families n)
 
 abbrev pub open_record : Known → Place → Name → Bool → ℕ → Option Fields → Checked (Resolved × Known)
 open_record k p x b n None = refused Misplaced x

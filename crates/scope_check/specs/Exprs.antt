@@ -8,23 +8,23 @@ use Rattle.source_tree.specs.declared.expr.Binder.{Binder, fold-Binder}
 use Rattle.source_tree.specs.declared.expr.FieldValue.{FieldValue, fold-FieldValue}
 use Rattle.source_tree.specs.declared.expr.Arg.TheOpen.{Expr-F, Arg-F, Binder-F, FieldValue-F}
 use Rattle.scope_check.specs.declared.error.ScopeKind.TheVariants.{NotInScope, Misplaced}
-use Rattle.scope_check.specs.declared.global.GlobalId.{GlobalId}
-use Rattle.scope_check.specs.declared.global.GlobalId.TheVariants as g
+use Rattle.scope_table.specs.declared.global.GlobalId.{GlobalId}
+use Rattle.scope_table.specs.declared.global.GlobalId.TheVariants as g
 use Rattle.scope_check.specs.declared.head.Head.{Head}
 use Rattle.scope_check.specs.declared.head.Head.TheVariants.{Whole, Field}
 use Rattle.scope_check.specs.declared.holes.Holes.{Holes}
 use Rattle.scope_check.specs.declared.holes.Holes.TheVariants as h
-use Rattle.scope_check.specs.declared.resolved.ResolvedName.{ResolvedName}
-use Rattle.scope_check.specs.declared.resolved.ResolvedExpr.{ResolvedExpr, out-ResolvedExpr}
-use Rattle.scope_check.specs.declared.resolved.ResolvedExpr.TheVariants as r
-use Rattle.scope_check.specs.declared.resolved.ResolvedArg.{ResolvedArg, out-ResolvedArg}
-use Rattle.scope_check.specs.declared.resolved.ResolvedArg.TheVariants as ra
-use Rattle.scope_check.specs.declared.resolved.ResolvedArg.TheOpen.{ResolvedExpr-F, ResolvedArg-F}
-use Rattle.scope_check.specs.declared.resolved.ResolvedBinder.{ResolvedBinder}
-use Rattle.scope_check.specs.declared.resolved.ResolvedBinder.TheVariants as rb
-use Rattle.scope_check.specs.declared.resolved.ResolvedValue.{ResolvedValue}
+use Rattle.resolved_tree.specs.declared.resolved.ResolvedName.{ResolvedName}
+use Rattle.resolved_tree.specs.declared.resolved.ResolvedExpr.{ResolvedExpr, out-ResolvedExpr}
+use Rattle.resolved_tree.specs.declared.resolved.ResolvedExpr.TheVariants as r
+use Rattle.resolved_tree.specs.declared.resolved.ResolvedArg.{ResolvedArg, out-ResolvedArg}
+use Rattle.resolved_tree.specs.declared.resolved.ResolvedArg.TheVariants as ra
+use Rattle.resolved_tree.specs.declared.resolved.ResolvedArg.TheOpen.{ResolvedExpr-F, ResolvedArg-F}
+use Rattle.resolved_tree.specs.declared.resolved.ResolvedBinder.{ResolvedBinder}
+use Rattle.resolved_tree.specs.declared.resolved.ResolvedBinder.TheVariants as rb
+use Rattle.resolved_tree.specs.declared.resolved.ResolvedValue.{ResolvedValue}
 use Rattle.scope_check.specs.Answers.{Checked, ◌>>=◌, refused, refused_hole, each_from}
-use Rattle.scope_check.specs.Known.{Known, place_of, number, global_in}
+use Rattle.scope_table.specs.Known.{Known, place_of, number, global_in}
 
 -- the texts of the variables around, the innermost first; a variable without a name has the empty text, which no name has
 abbrev pub Locals : Type 0

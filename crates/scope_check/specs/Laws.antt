@@ -1,9 +1,9 @@
 -- What the laws say.
 use Rattle.std.specs.Prelude.{◌≡◌}
 use Rattle.source_tree.specs.declared.decl.Decl.{Decl}
-use Rattle.scope_check.specs.declared.resolved.Resolved.{Resolved}
+use Rattle.resolved_tree.specs.declared.resolved.Resolved.{Resolved}
 use Rattle.scope_check.specs.Answers.{Checked}
-use Rattle.scope_check.specs.Known.{Known}
+use Rattle.scope_table.specs.Known.{Known}
 use Rattle.scope_check.specs.Resolves.{Resolves}
 
 -- the declaration has an answer behind k, and no other

@@ -11,15 +11,15 @@ use Rattle.scope_check.specs.declared.error.ScopeKind.TheVariants.{Misplaced}
 use Rattle.scope_check.specs.declared.head.Head.{Head}
 use Rattle.scope_check.specs.declared.head.Head.TheVariants.{Whole, Field}
 use Rattle.scope_check.specs.declared.holes.Holes.{Holes}
-use Rattle.scope_check.specs.declared.resolved.ResolvedExpr.{ResolvedExpr}
-use Rattle.scope_check.specs.declared.resolved.ResolvedExpr.TheVariants as r
-use Rattle.scope_check.specs.declared.resolved.ResolvedArg.{ResolvedArg}
-use Rattle.scope_check.specs.declared.resolved.ResolvedArg.TheVariants as ra
-use Rattle.scope_check.specs.declared.resolved.ResolvedBinder.{ResolvedBinder}
-use Rattle.scope_check.specs.declared.resolved.ResolvedBinder.TheVariants as rb
-use Rattle.scope_check.specs.declared.resolved.ResolvedValue.{ResolvedValue}
+use Rattle.resolved_tree.specs.declared.resolved.ResolvedExpr.{ResolvedExpr}
+use Rattle.resolved_tree.specs.declared.resolved.ResolvedExpr.TheVariants as r
+use Rattle.resolved_tree.specs.declared.resolved.ResolvedArg.{ResolvedArg}
+use Rattle.resolved_tree.specs.declared.resolved.ResolvedArg.TheVariants as ra
+use Rattle.resolved_tree.specs.declared.resolved.ResolvedBinder.{ResolvedBinder}
+use Rattle.resolved_tree.specs.declared.resolved.ResolvedBinder.TheVariants as rb
+use Rattle.resolved_tree.specs.declared.resolved.ResolvedValue.{ResolvedValue}
 use Rattle.scope_check.specs.Answers.{Checked, ◌>>=◌, refused, each_from}
-use Rattle.scope_check.specs.Known.{Known}
+use Rattle.scope_table.specs.Known.{Known}
 use Rattle.scope_check.specs.Exprs.{Locals, label, named, qualified, field_of, projected, means, under, binders_from, wholly, hole_at, head_of, arg_of, binder_of, value_of, expr}
 
 abbrev pub is_plain_in : Arg-F Arg Binder Expr FieldValue → Bool

@@ -1,11 +1,9 @@
-pub mod Known
 pub mod Answers
 pub mod Exprs
 pub mod Layers
 pub mod Mentions
 pub mod Patterns
 pub mod Decls
-pub mod Innermost
 pub mod ResolvesNames
 pub mod ResolvesExprs
 pub mod ResolvesPatterns

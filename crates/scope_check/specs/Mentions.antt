@@ -1,6 +1,6 @@
 -- The texts that get a number from a declaration: those of names that are bound, declared or labels, and of names of patterns, in
 -- the order of the text.
-use Rattle.std.specs.Prelude.{ℕ, List, [], ◌∷◌, ◌++◌, map, Option, Some, None, if◌then◌else◌, is_some}
+use Rattle.std.specs.Prelude.{ℕ, List, [], ◌∷◌, ◌++◌, map, Option, Some, None}
 use Rattle.source_tree.specs.declared.place.Name.{Name}
 use Rattle.source_tree.specs.declared.expr.Expr.{Expr, fold-Expr}
 use Rattle.source_tree.specs.declared.expr.Arg.{Arg, fold-Arg}
@@ -15,7 +15,6 @@ use Rattle.source_tree.specs.declared.decl.RecordItem.{RecordItem}
 use Rattle.source_tree.specs.declared.decl.RecordItem.TheVariants as i
 use Rattle.source_tree.specs.declared.decl.Decl.{Decl}
 use Rattle.source_tree.specs.declared.decl.Decl.TheVariants as d
-use Rattle.scope_check.specs.Known.{place_of}
 
 abbrev pub Texts : Type 0
 Texts = List (List ℕ)
@@ -152,13 +151,3 @@ in_decl (d.Clause c) = []
 in_decl (d.Open p x b) = []
 in_decl (d.Data p x bs a ss) = x.text ∷ all_of (map in_binder bs) ++ in_expr a ++ all_of (map in_signature ss)
 in_decl (d.Record p x bs a items) = x.text ∷ all_of (map in_binder bs) ++ in_expr a ++ all_of (map in_item items)
-
--- ---- numbers
-
--- a text that has no number yet gets the next one
-abbrev pub with_text : Texts → List ℕ → Texts
-with_text ns x = if is_some (place_of ns x) then ns else ns ++ x ∷ []
-
-unfoldable pub with_texts : Texts → Texts → Texts
-with_texts ns [] = ns
-with_texts ns (x ∷ xs) = with_texts (with_text ns x) xs

@@ -6,17 +6,17 @@ use Rattle.source_tree.specs.declared.place.Name.{Name}
 use Rattle.source_tree.specs.declared.pattern.Pattern.{Pattern, fold-Pattern}
 use Rattle.source_tree.specs.declared.pattern.Pattern.TheOpen.{Pattern-F}
 use Rattle.scope_check.specs.declared.error.ScopeKind.TheVariants.{Misplaced, Nonlinear, NotAConstructor}
-use Rattle.scope_check.specs.declared.global.GlobalId.{GlobalId}
-use Rattle.scope_check.specs.declared.global.GlobalId.TheVariants as g
+use Rattle.scope_table.specs.declared.global.GlobalId.{GlobalId}
+use Rattle.scope_table.specs.declared.global.GlobalId.TheVariants as g
 use Rattle.scope_check.specs.declared.holes.Holes.TheVariants as h
 use Rattle.scope_check.specs.declared.depth.Depth.{Depth}
 use Rattle.scope_check.specs.declared.depth.Depth.TheVariants.{Outer, Inner}
 use Rattle.scope_check.specs.declared.head.Head.{Head}
-use Rattle.scope_check.specs.declared.resolved.ResolvedPattern.{ResolvedPattern}
-use Rattle.scope_check.specs.declared.resolved.ResolvedPattern.TheVariants as rp
+use Rattle.resolved_tree.specs.declared.resolved.ResolvedPattern.{ResolvedPattern}
+use Rattle.resolved_tree.specs.declared.resolved.ResolvedPattern.TheVariants as rp
 use Rattle.scope_check.specs.Answers.{Checked, ◌>>=◌, refused}
-use Rattle.scope_check.specs.Known.{Known, place_of, global_in}
-use Rattle.scope_check.specs.Mentions.{Texts, all_of, with_text}
+use Rattle.scope_table.specs.Known.{Known, place_of, global_in, Texts, with_text}
+use Rattle.scope_check.specs.Mentions.{all_of}
 use Rattle.scope_check.specs.Exprs.{Locals, label, named, qualified, field_named, whole, expr}
 
 -- ---- `()` at any depth

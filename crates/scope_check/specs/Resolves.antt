@@ -15,26 +15,26 @@ use Rattle.source_tree.specs.declared.decl.Decl.TheVariants as d
 use Rattle.scope_check.specs.declared.error.ScopeError.{ScopeError}
 use Rattle.scope_check.specs.declared.error.ScopeError.TheVariants.{Bad}
 use Rattle.scope_check.specs.declared.error.ScopeKind.TheVariants.{NotInScope, Duplicate, Misplaced}
-use Rattle.scope_check.specs.declared.global.GlobalId.{GlobalId}
-use Rattle.scope_check.specs.declared.global.GlobalId.TheVariants as g
-use Rattle.scope_check.specs.declared.scope.Fields.{Fields}
+use Rattle.scope_table.specs.declared.global.GlobalId.{GlobalId}
+use Rattle.scope_table.specs.declared.global.GlobalId.TheVariants as g
+use Rattle.scope_table.specs.declared.scope.Fields.{Fields}
 use Rattle.scope_check.specs.declared.holes.Holes.TheVariants as h
 use Rattle.scope_check.specs.declared.depth.Depth.TheVariants.{Outer}
-use Rattle.scope_check.specs.declared.resolved.ResolvedExpr.{ResolvedExpr}
-use Rattle.scope_check.specs.declared.resolved.ResolvedBinder.{ResolvedBinder}
-use Rattle.scope_check.specs.declared.resolved.ResolvedPattern.{ResolvedPattern}
-use Rattle.scope_check.specs.declared.resolved.ResolvedClause.{ResolvedClause}
-use Rattle.scope_check.specs.declared.resolved.ResolvedSignature.{ResolvedSignature}
-use Rattle.scope_check.specs.declared.resolved.ResolvedItem.{ResolvedItem}
-use Rattle.scope_check.specs.declared.resolved.ResolvedItem.TheVariants as ri
-use Rattle.scope_check.specs.declared.resolved.Resolved.{Resolved}
-use Rattle.scope_check.specs.declared.resolved.Resolved.TheVariants as rd
+use Rattle.resolved_tree.specs.declared.resolved.ResolvedExpr.{ResolvedExpr}
+use Rattle.resolved_tree.specs.declared.resolved.ResolvedBinder.{ResolvedBinder}
+use Rattle.resolved_tree.specs.declared.resolved.ResolvedPattern.{ResolvedPattern}
+use Rattle.resolved_tree.specs.declared.resolved.ResolvedClause.{ResolvedClause}
+use Rattle.resolved_tree.specs.declared.resolved.ResolvedSignature.{ResolvedSignature}
+use Rattle.resolved_tree.specs.declared.resolved.ResolvedItem.{ResolvedItem}
+use Rattle.resolved_tree.specs.declared.resolved.ResolvedItem.TheVariants as ri
+use Rattle.resolved_tree.specs.declared.resolved.Resolved.{Resolved}
+use Rattle.resolved_tree.specs.declared.resolved.Resolved.TheVariants as rd
 use Rattle.scope_check.specs.declared.parts.Parts.{Parts}
 use Rattle.scope_check.specs.Answers.{Checked, made, refused}
-use Rattle.scope_check.specs.Known.{Known, global_in, with_global, with_def, with_family, with_families, with_names}
-use Rattle.scope_check.specs.Mentions.{Texts, texts, in_decl, with_text, with_texts}
+use Rattle.scope_table.specs.Known.{Known, global_in, with_global, with_def, with_family, with_families, with_names, Texts, with_text, with_texts, fields_of}
+use Rattle.scope_check.specs.Mentions.{texts, in_decl}
 use Rattle.scope_check.specs.Exprs.{Locals, label, under}
-use Rattle.scope_check.specs.Decls.{is_global, is_among, signed, with_defs, with_cons, with_record, left_variables, is_ended, fields_of}
+use Rattle.scope_check.specs.Decls.{is_global, is_among, signed, with_defs, with_cons, with_record, left_variables, is_ended}
 use Rattle.scope_check.specs.ResolvesExprs.{ResolvesExpr, ResolvesBehind}
 use Rattle.scope_check.specs.ResolvesPatterns.{ResolvesPatterns}
 

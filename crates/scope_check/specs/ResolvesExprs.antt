@@ -14,15 +14,15 @@ use Rattle.scope_check.specs.declared.head.Head.{Head}
 use Rattle.scope_check.specs.declared.head.Head.TheVariants.{Whole, Field}
 use Rattle.scope_check.specs.declared.holes.Holes.{Holes}
 use Rattle.scope_check.specs.declared.holes.Holes.TheVariants as h
-use Rattle.scope_check.specs.declared.resolved.ResolvedExpr.{ResolvedExpr}
-use Rattle.scope_check.specs.declared.resolved.ResolvedExpr.TheVariants as r
-use Rattle.scope_check.specs.declared.resolved.ResolvedArg.{ResolvedArg}
-use Rattle.scope_check.specs.declared.resolved.ResolvedArg.TheVariants as ra
-use Rattle.scope_check.specs.declared.resolved.ResolvedBinder.{ResolvedBinder}
-use Rattle.scope_check.specs.declared.resolved.ResolvedBinder.TheVariants as rb
-use Rattle.scope_check.specs.declared.resolved.ResolvedValue.{ResolvedValue}
+use Rattle.resolved_tree.specs.declared.resolved.ResolvedExpr.{ResolvedExpr}
+use Rattle.resolved_tree.specs.declared.resolved.ResolvedExpr.TheVariants as r
+use Rattle.resolved_tree.specs.declared.resolved.ResolvedArg.{ResolvedArg}
+use Rattle.resolved_tree.specs.declared.resolved.ResolvedArg.TheVariants as ra
+use Rattle.resolved_tree.specs.declared.resolved.ResolvedBinder.{ResolvedBinder}
+use Rattle.resolved_tree.specs.declared.resolved.ResolvedBinder.TheVariants as rb
+use Rattle.resolved_tree.specs.declared.resolved.ResolvedValue.{ResolvedValue}
 use Rattle.scope_check.specs.Answers.{Checked, made, refused, refused_hole}
-use Rattle.scope_check.specs.Known.{Known}
+use Rattle.scope_table.specs.Known.{Known}
 use Rattle.scope_check.specs.Exprs.{Locals, label, opened, under}
 use Rattle.scope_check.specs.Layers.{begins_plain}
 use Rattle.scope_check.specs.ResolvesNames.{StandsFor, StandsForGlobal, StandsForField}

@@ -2,12 +2,12 @@
 use Rattle.std.specs.Prelude.{◌≡◌, ℕ, Some, None, Ok}
 use Rattle.source_tree.specs.declared.place.Name.{Name}
 use Rattle.scope_check.specs.declared.error.ScopeKind.TheVariants.{NotInScope}
-use Rattle.scope_check.specs.declared.global.GlobalId.TheVariants as g
+use Rattle.scope_table.specs.declared.global.GlobalId.TheVariants as g
 use Rattle.scope_check.specs.declared.head.Head.{Head}
 use Rattle.scope_check.specs.declared.head.Head.TheVariants.{Whole, Field}
-use Rattle.scope_check.specs.declared.resolved.ResolvedExpr.TheVariants as r
+use Rattle.resolved_tree.specs.declared.resolved.ResolvedExpr.TheVariants as r
 use Rattle.scope_check.specs.Answers.{Checked, refused}
-use Rattle.scope_check.specs.Known.{Known, place_of, global_in}
+use Rattle.scope_table.specs.Known.{Known, place_of, global_in}
 use Rattle.scope_check.specs.Exprs.{Locals, field_named}
 
 -- a qualified name, or a name that no variable has: the global of its text

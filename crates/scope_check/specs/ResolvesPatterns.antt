@@ -12,12 +12,11 @@ use Rattle.scope_check.specs.declared.error.ScopeKind.TheVariants.{Misplaced, No
 use Rattle.scope_check.specs.declared.holes.Holes.TheVariants as h
 use Rattle.scope_check.specs.declared.depth.Depth.{Depth}
 use Rattle.scope_check.specs.declared.depth.Depth.TheVariants.{Outer, Inner}
-use Rattle.scope_check.specs.declared.resolved.ResolvedExpr.{ResolvedExpr}
-use Rattle.scope_check.specs.declared.resolved.ResolvedPattern.{ResolvedPattern}
-use Rattle.scope_check.specs.declared.resolved.ResolvedPattern.TheVariants as rp
+use Rattle.resolved_tree.specs.declared.resolved.ResolvedExpr.{ResolvedExpr}
+use Rattle.resolved_tree.specs.declared.resolved.ResolvedPattern.{ResolvedPattern}
+use Rattle.resolved_tree.specs.declared.resolved.ResolvedPattern.TheVariants as rp
 use Rattle.scope_check.specs.Answers.{Checked, made, refused}
-use Rattle.scope_check.specs.Known.{Known, place_of}
-use Rattle.scope_check.specs.Mentions.{Texts, with_text}
+use Rattle.scope_table.specs.Known.{Known, place_of, Texts, with_text}
 use Rattle.scope_check.specs.Exprs.{Locals, label, field_named}
 use Rattle.scope_check.specs.Patterns.{con_named}
 use Rattle.scope_check.specs.ResolvesExprs.{ResolvesExpr}

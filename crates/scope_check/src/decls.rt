@@ -1,7 +1,7 @@
 ghost use Rattle.std.specs.Prelude.{◌≡◌, OnErr};
 ghost use Rattle.scope_check.specs.Answers.{Binds, Meets};
 ghost use Rattle.scope_check.specs.Decls as spec;
-ghost use Rattle.scope_check.specs.Known.{Grows};
+ghost use Rattle.scope_table.specs.Known.{Grows};
 ghost use Rattle.scope_check.specs.Resolves.{Resolves};
 
 use crate::error::{ScopeError, ScopeKind};
@@ -12,13 +12,13 @@ use crate::names::refused;
 use crate::opens::open_named;
 use crate::postulates::postulate_lines;
 use crate::records::record_type;
-use crate::resolved::Resolved;
-use crate::scope::Scope;
+use resolved_tree::Resolved;
+use scope_table::Scope;
 use source_tree::Decl;
 use std::alloc::Global;
 
 /// The declaration, whose names have their numbers.
-#[tactic(auto, using(crate::proofs::Grown::grows))]
+#[tactic(auto, using(scope_table::proofs::Grown::grows))]
 fn declared(alloc: Global, scope: &mut Scope, found: &Decl) -> Result<Resolved, ScopeError>
     ensures binds { Binds (spec.declared scope.old found.now) result scope.new }
     ensures grows { Grows scope.old scope.new }
@@ -53,14 +53,14 @@ fn declared(alloc: Global, scope: &mut Scope, found: &Decl) -> Result<Resolved, 
 }
 
 /// Gives the names their numbers first.
-#[tactic(auto, using(crate::proofs::Grown::grows))]
+#[tactic(auto, using(scope_table::proofs::Grown::grows))]
 fn numbered(alloc: Global, scope: &mut Scope, found: &Decl) -> Result<Resolved, ScopeError>
     ensures binds { Binds (spec.resolved scope.old found.now) result scope.new }
     ensures grows { Grows scope.old scope.new }
 {
     let mut mentions = Mentions::new(alloc);
     mentions.decl(found)?;
-    scope.note_all(&mentions)?;
+    scope.note_all(mentions.texts())?;
     declared(alloc, scope, found)
 }
 

@@ -1,19 +1,17 @@
 ghost use Rattle.std.specs.Prelude.{◌≡◌, [], None, OnOk};
 ghost use Rattle.scope_check.specs.Answers.{Binds, Leaves};
 ghost use Rattle.scope_check.specs.Decls as spec;
-ghost use Rattle.scope_check.specs.Known.{Grows, with_families};
+ghost use Rattle.scope_table.specs.Known.{Grows, with_families};
 ghost use Rattle.source_tree.specs.declared.decl.Decl.TheVariants as d;
 
 use crate::error::ScopeError;
 use crate::exprs::{binders, expr};
 use crate::holes::Holes;
-use crate::locals::Locals;
 use crate::names::label;
 use crate::postulates::{fresh, new_names, signed};
-use crate::resolved::{Resolved, ResolvedSignature};
-use crate::scope::Scope;
-use crate::texts::Texts;
 use el_outside::{NoMemory, Text};
+use resolved_tree::{Resolved, ResolvedSignature};
+use scope_table::{Locals, Scope, Texts};
 use source_tree::{Binder, Expr, Name, Place, Signature};
 use sqlite_items::Items;
 use std::alloc::Global;
@@ -54,7 +52,7 @@ fn con_lines(
 }
 
 /// The constructors of a type that is done.
-#[tactic(auto, using(crate::proofs::Grown::grows), unfolding(crate::specs::Decls::with_cons))]
+#[tactic(auto, using(scope_table::proofs::Grown::grows), unfolding(crate::specs::Decls::with_cons))]
 fn declare_cons(scope: &mut Scope, all: &[Text]) -> Result<(), NoMemory>
     ensures ok { OnOk result (scope.new ≡ spec.with_cons scope.old all.now) }
     ensures grows { Grows scope.old scope.new }
@@ -68,7 +66,7 @@ fn declare_cons(scope: &mut Scope, all: &[Text]) -> Result<(), NoMemory>
 }
 
 /// What comes into scope behind a data type.
-#[tactic(auto, using(crate::proofs::Grown::grows))]
+#[tactic(auto, using(scope_table::proofs::Grown::grows))]
 fn finish_data(alloc: Global, scope: &mut Scope, all: &Texts) -> Result<(), NoMemory>
     ensures ok { OnOk result (scope.new ≡ with_families (spec.with_cons scope.old all.now) None) }
     ensures grows { Grows scope.old scope.new }
@@ -78,7 +76,7 @@ fn finish_data(alloc: Global, scope: &mut Scope, all: &Texts) -> Result<(), NoMe
     scope.finish_family(None)
 }
 
-#[tactic(auto, using(crate::proofs::Grown::grows))]
+#[tactic(auto, using(scope_table::proofs::Grown::grows))]
 fn data_of(
     alloc: Global,
     scope: &mut Scope,
@@ -103,7 +101,7 @@ fn data_of(
 }
 
 /// A data type.
-#[tactic(auto, using(crate::proofs::Grown::grows))]
+#[tactic(auto, using(scope_table::proofs::Grown::grows))]
 pub fn data(
     alloc: Global,
     scope: &mut Scope,

@@ -1,21 +1,19 @@
 ghost use Rattle.std.specs.Prelude.{◌≡◌, [], map};
 ghost use Rattle.scope_check.specs.Answers.{Answers, Binds, each_from};
 ghost use Rattle.scope_check.specs.Decls as spec;
-ghost use Rattle.scope_check.specs.Known.{Grows};
+ghost use Rattle.scope_table.specs.Known.{Grows};
 
 use crate::depth::Depth;
 use crate::error::{ScopeError, ScopeKind};
 use crate::exprs::expr;
 use crate::holes::Holes;
-use crate::locals::Locals;
 use crate::names::refused;
 use crate::patterns::{all_variables, any_absurd, patterns};
 use crate::postulates::{fresh, signed};
-use crate::resolved::{Resolved, ResolvedClause, ResolvedExpr};
-use crate::scope::Scope;
-use crate::texts::Texts;
 use core_terms::DefId;
 use el_outside::Text;
+use resolved_tree::{Resolved, ResolvedClause, ResolvedExpr};
+use scope_table::{Locals, Scope, Texts};
 use source_tree::{Clause, Expr, Name, Place, Signature};
 use sqlite_items::Items;
 use std::alloc::Global;
@@ -134,7 +132,7 @@ fn is_single(more: &[Name], all: &[Clause]) -> bool
     }
 }
 
-#[tactic(auto, using(crate::proofs::Grown::grows))]
+#[tactic(auto, using(scope_table::proofs::Grown::grows))]
 fn function_of(
     alloc: Global,
     scope: &mut Scope,
@@ -155,7 +153,7 @@ fn function_of(
 }
 
 /// A signature, and the clauses that follow it.
-#[tactic(auto, using(crate::proofs::Grown::grows))]
+#[tactic(auto, using(scope_table::proofs::Grown::grows))]
 pub fn function(
     alloc: Global,
     scope: &mut Scope,

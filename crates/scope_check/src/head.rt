@@ -1,5 +1,5 @@
-use crate::resolved::ResolvedExpr;
 use core_terms::FieldId;
+use resolved_tree::ResolvedExpr;
 use source_tree::Name;
 
 /// What stands at the head of an application.

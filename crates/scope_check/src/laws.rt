@@ -2,9 +2,9 @@
 
 ghost use Rattle.std.specs.Prelude.{◌≡◌, ◌↔◌};
 ghost use Rattle.source_tree.specs.declared.decl.Decl.{Decl};
-ghost use Rattle.scope_check.specs.declared.resolved.Resolved.{Resolved};
+ghost use Rattle.resolved_tree.specs.declared.resolved.Resolved.{Resolved};
 ghost use Rattle.scope_check.specs.Answers.{Checked};
-ghost use Rattle.scope_check.specs.Known.{Known};
+ghost use Rattle.scope_table.specs.Known.{Known};
 ghost use Rattle.scope_check.specs.Decls.{resolved};
 ghost use Rattle.scope_check.specs.Resolves.{Resolves};
 ghost use Rattle.scope_check.specs.Laws.{OneCase};

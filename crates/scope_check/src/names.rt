@@ -3,13 +3,11 @@ ghost use Rattle.scope_check.specs.Answers.{Answers, refused as is_refused, refu
 ghost use Rattle.scope_check.specs.Exprs as spec;
 
 use crate::error::{ScopeError, ScopeKind};
-use crate::global::GlobalId;
 use crate::head::Head;
-use crate::locals::Locals;
-use crate::resolved::{ResolvedExpr, ResolvedName};
-use crate::scope::Scope;
 use core_terms::FieldId;
 use el_outside::{NoMemory, Text};
+use resolved_tree::{ResolvedExpr, ResolvedName};
+use scope_table::{GlobalId, Locals, Scope};
 use source_tree::{Name, Place};
 use sqlite_items::Items;
 use std::alloc::Global;

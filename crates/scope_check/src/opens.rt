@@ -1,20 +1,19 @@
 ghost use Rattle.scope_check.specs.Answers.{Binds, Leaves};
 ghost use Rattle.scope_check.specs.Decls as spec;
-ghost use Rattle.scope_check.specs.Known.{Grows};
+ghost use Rattle.scope_table.specs.Known.{Grows, fields_of};
 ghost use Rattle.source_tree.specs.declared.decl.Decl.TheVariants as d;
 
 use crate::error::{ScopeError, ScopeKind};
-use crate::global::GlobalId;
 use crate::names::refused;
-use crate::resolved::Resolved;
-use crate::scope::Scope;
 use core_terms::{FamId, FieldId};
 use el_outside::Text;
+use resolved_tree::Resolved;
+use scope_table::{GlobalId, Scope};
 use source_tree::{Name, Place};
 use std::alloc::Global;
 
 /// Brings a field into scope under its own name.
-#[tactic(auto, using(crate::proofs::Grown::grows))]
+#[tactic(auto, using(scope_table::proofs::Grown::grows))]
 fn open_field(
     alloc: Global,
     scope: &mut Scope,
@@ -37,7 +36,7 @@ fn open_field(
     Ok(())
 }
 
-#[tactic(auto, using(crate::proofs::Grown::grows), unfolding(crate::specs::Decls::open_fields))]
+#[tactic(auto, using(scope_table::proofs::Grown::grows), unfolding(crate::specs::Decls::open_fields))]
 fn open_fields(
     alloc: Global,
     scope: &mut Scope,
@@ -61,7 +60,7 @@ fn open_fields(
     Ok(())
 }
 
-#[tactic(auto, using(crate::proofs::Grown::grows))]
+#[tactic(auto, using(scope_table::proofs::Grown::grows))]
 fn open_family(
     alloc: Global,
     scope: &mut Scope,
@@ -70,7 +69,7 @@ fn open_family(
     public: bool,
     family: FamId,
 ) -> Result<Resolved, ScopeError>
-    ensures binds { Binds (spec.open_record scope.old place name.now public family (spec.fields_of scope.old family)) result scope.new }
+    ensures binds { Binds (spec.open_record scope.old place name.now public family (fields_of scope.old family)) result scope.new }
     ensures grows { Grows scope.old scope.new }
 {
     let Some(fields) = scope.fields_of(family)? else {
@@ -86,7 +85,7 @@ fn open_family(
     Ok(Resolved::Open(place, family, public))
 }
 
-#[tactic(auto, using(crate::proofs::Grown::grows))]
+#[tactic(auto, using(scope_table::proofs::Grown::grows))]
 fn open_global(
     alloc: Global,
     scope: &mut Scope,
@@ -107,7 +106,7 @@ fn open_global(
 }
 
 /// `open R`.
-#[tactic(auto, using(crate::proofs::Grown::grows))]
+#[tactic(auto, using(scope_table::proofs::Grown::grows))]
 pub fn open_named(
     alloc: Global,
     scope: &mut Scope,

@@ -1,6 +1,5 @@
-use crate::locals::Locals;
-use crate::texts::Texts;
 use el_outside::Text;
+use scope_table::{Locals, Texts};
 
 /// What is read of a record: the name of its constructor, the names of its fields, and the variables around the next field's
 /// type.

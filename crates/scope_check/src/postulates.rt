@@ -1,18 +1,16 @@
 ghost use Rattle.std.specs.Prelude.{◌≡◌, [], IfOk, OnOk};
 ghost use Rattle.scope_check.specs.Answers.{Answers, Binds, Leaves};
 ghost use Rattle.scope_check.specs.Decls as spec;
-ghost use Rattle.scope_check.specs.Known.{Grows};
+ghost use Rattle.scope_table.specs.Known.{Grows};
 ghost use Rattle.scope_check.specs.Mentions.{texts};
 
 use crate::error::{ScopeError, ScopeKind};
 use crate::exprs::expr;
 use crate::holes::Holes;
-use crate::locals::Locals;
 use crate::names::{labels, refused};
-use crate::resolved::{ResolvedExpr, ResolvedSignature};
-use crate::scope::Scope;
-use crate::texts::Texts;
 use el_outside::NoMemory;
+use resolved_tree::{ResolvedExpr, ResolvedSignature};
+use scope_table::{Locals, Scope, Texts};
 use source_tree::{Name, Signature};
 use sqlite_items::Items;
 use std::alloc::Global;
@@ -71,7 +69,7 @@ pub fn signed(
     Ok(ResolvedSignature { place, names, ty })
 }
 
-#[tactic(auto, using(crate::proofs::Grown::grows), unfolding(crate::specs::Decls::with_defs))]
+#[tactic(auto, using(scope_table::proofs::Grown::grows), unfolding(crate::specs::Decls::with_defs))]
 fn declare_defs(scope: &mut Scope, all: &[Name]) -> Result<(), NoMemory>
     ensures ok { OnOk result (scope.new ≡ spec.with_defs scope.old (texts all.now)) }
     ensures grows { Grows scope.old scope.new }
@@ -85,7 +83,7 @@ fn declare_defs(scope: &mut Scope, all: &[Name]) -> Result<(), NoMemory>
 }
 
 /// One line of a block: its names come into scope behind it.
-#[tactic(auto, using(crate::proofs::Grown::grows))]
+#[tactic(auto, using(scope_table::proofs::Grown::grows))]
 fn postulate_line(
     alloc: Global,
     scope: &mut Scope,
@@ -104,7 +102,7 @@ fn postulate_line(
 }
 
 /// The lines of a block.
-#[tactic(auto, using(crate::proofs::Grown::grows), unfolding(crate::specs::Decls::postulate_lines))]
+#[tactic(auto, using(scope_table::proofs::Grown::grows), unfolding(crate::specs::Decls::postulate_lines))]
 pub fn postulate_lines(
     alloc: Global,
     scope: &mut Scope,

@@ -1,20 +1,18 @@
 ghost use Rattle.std.specs.Prelude.{◌≡◌, [], OnOk};
 ghost use Rattle.scope_check.specs.Answers.{Binds, Leaves};
 ghost use Rattle.scope_check.specs.Decls as spec;
-ghost use Rattle.scope_check.specs.Known.{Grows};
+ghost use Rattle.scope_table.specs.Known.{Grows};
 ghost use Rattle.source_tree.specs.declared.decl.Decl.TheVariants as d;
 
 use crate::error::{ScopeError, ScopeKind};
 use crate::exprs::{binders, expr};
 use crate::holes::Holes;
-use crate::locals::Locals;
 use crate::names::{bind, label, refused};
 use crate::parts::Parts;
 use crate::postulates::{fresh, signed};
-use crate::resolved::{Resolved, ResolvedItem, ResolvedSignature};
-use crate::scope::{Fields, Scope};
-use crate::texts::Texts;
 use el_outside::{NoMemory, Text};
+use resolved_tree::{Resolved, ResolvedItem, ResolvedSignature};
+use scope_table::{Fields, Locals, Scope, Texts};
 use source_tree::{Binder, Expr, Name, Place, RecordItem, Signature};
 use sqlite_items::Items;
 use std::alloc::Global;
@@ -130,7 +128,7 @@ fn items(
 }
 
 /// The constructor of a record that is done, which may have no name.
-#[tactic(auto, using(crate::proofs::Grown::grows))]
+#[tactic(auto, using(scope_table::proofs::Grown::grows))]
 fn declare_con(scope: &mut Scope, con: &Option<Text>) -> Result<(), NoMemory>
     ensures ok { OnOk result (scope.new ≡ spec.with_record_con scope.old con.now) }
     ensures grows { Grows scope.old scope.new }
@@ -142,7 +140,7 @@ fn declare_con(scope: &mut Scope, con: &Option<Text>) -> Result<(), NoMemory>
 }
 
 /// The fields of a record that is done, as `R.f`.
-#[tactic(auto, using(crate::proofs::Grown::grows), unfolding(crate::specs::Decls::with_fields))]
+#[tactic(auto, using(scope_table::proofs::Grown::grows), unfolding(crate::specs::Decls::with_fields))]
 fn declare_fields(scope: &mut Scope, name: &str, all: &[Text]) -> Result<(), NoMemory>
     ensures ok { OnOk result (scope.new ≡ spec.with_fields scope.old name.now all.now) }
     ensures grows { Grows scope.old scope.new }
@@ -156,7 +154,7 @@ fn declare_fields(scope: &mut Scope, name: &str, all: &[Text]) -> Result<(), NoM
 }
 
 /// What comes into scope behind a record.
-#[tactic(auto, using(crate::proofs::Grown::grows))]
+#[tactic(auto, using(scope_table::proofs::Grown::grows))]
 fn finish_record(
     alloc: Global,
     scope: &mut Scope,
@@ -173,7 +171,7 @@ fn finish_record(
     scope.finish_family(Some(Fields { first, names }))
 }
 
-#[tactic(auto, using(crate::proofs::Grown::grows))]
+#[tactic(auto, using(scope_table::proofs::Grown::grows))]
 fn record_of(
     alloc: Global,
     scope: &mut Scope,
@@ -202,7 +200,7 @@ fn record_of(
 }
 
 /// A record type.
-#[tactic(auto, using(crate::proofs::Grown::grows))]
+#[tactic(auto, using(scope_table::proofs::Grown::grows))]
 pub fn record_type(
     alloc: Global,
     scope: &mut Scope,

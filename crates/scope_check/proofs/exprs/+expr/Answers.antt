@@ -3,7 +3,7 @@ use Rattle.std.proofs.lemmas.Grind.{common_steps}
 use Rattle.scope_check.specs.Exprs as spec
 use Rattle.scope_check.specs.Layers as layer
 use Rattle.scope_check.proofs.Folds.{head_at, arg_at, binder_at, value_at}
-use Rattle.scope_check.proofs.Inside.{inside-trans}
+use Rattle.scope_table.proofs.Inside.{inside-trans}
 use Rattle.scope_check.proofs.Loops.{each_next, each_end, binders_next, binders_end}
 use Rattle.scope_check.proofs.exprs.+expr.Goals as goal
 

@@ -1,6 +1,6 @@
 use Rattle.std.proofs.Common.{◌≡◌, [], drop}
 use Rattle.scope_check.specs.Layers as layer
-use Rattle.scope_check.specs.Known.{Inside}
+use Rattle.scope_table.specs.Known.{Inside}
 use Rattle.scope_check.proofs.exprs.+expr.Given as goal
 
 abbrev pub invariant-args-loop-one : goal.invariant-args-loop-one

@@ -1,4 +1,4 @@
-use Rattle.scope_check.proofs.Grown.{grows-trans, grows-family}
+use Rattle.scope_table.proofs.Grown.{grows-trans, grows-family}
 use Rattle.scope_check.proofs.families.data_of.Goals as goal
 
 pub returns-in_err-finish_data-clause-grows : goal.returns-in_err-finish_data-clause-grows

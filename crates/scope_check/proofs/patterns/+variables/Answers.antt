@@ -1,9 +1,10 @@
 use Rattle.std.proofs.Common.{◌∙◌, ◌+◌, map, drop, sym, ap}
-use Rattle.scope_check.specs.Mentions.{Texts, all_of}
+use Rattle.scope_check.specs.Mentions.{all_of}
 use Rattle.scope_check.specs.Patterns as spec
 use Rattle.scope_check.proofs.MentionFolds.{all_next, all_end}
 use Rattle.scope_check.proofs.PatternFolds.{variables_at, inside_more}
 use Rattle.scope_check.proofs.patterns.+variables.Goals as goal
+use Rattle.scope_table.specs.Known.{Texts}
 
 pub variables-returns : goal.variables-returns
 variables-returns t c = rw (variables_at c.args.scope.now c.args.found.now) c.variables_in.ensures

@@ -1,6 +1,6 @@
 use Rattle.std.proofs.Common.{◌≡◌, length}
 use Rattle.scope_check.specs.Decls as spec
-use Rattle.scope_check.specs.Known.{Grows}
+use Rattle.scope_table.specs.Known.{Grows}
 use Rattle.scope_check.proofs.records.declare_fields.Given as goal
 
 abbrev pub invariant-loop-left : goal.invariant-loop-left

@@ -1,4 +1,4 @@
-use Rattle.scope_check.proofs.Grown.{grows-trans, grows-family}
+use Rattle.scope_table.proofs.Grown.{grows-trans, grows-family}
 use Rattle.scope_check.proofs.records.record_of.Goals as goal
 
 pub returns-in_err-finish_record-clause-grows : goal.returns-in_err-finish_record-clause-grows

@@ -1,0 +1,2 @@
+postulate A : Set
+postulate x : A {A} {y = A} A

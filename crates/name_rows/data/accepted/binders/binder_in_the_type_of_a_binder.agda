@@ -1,0 +1,2 @@
+postulate A : Set
+postulate x : (y : (y : A) → y) → y

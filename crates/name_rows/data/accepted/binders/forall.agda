@@ -1,0 +1,2 @@
+postulate A : Set
+postulate x : ∀ y {z} (w : A) {u v : A} → z

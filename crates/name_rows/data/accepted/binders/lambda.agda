@@ -1,0 +1,2 @@
+postulate A : Set
+postulate x : λ y _ {z} (w : A) {u : A} → y

@@ -1,0 +1,1 @@
+data Empty : Set where

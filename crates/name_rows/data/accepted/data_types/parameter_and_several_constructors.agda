@@ -1,0 +1,2 @@
+data Vec (A : Set) : Set → Set where
+  nil cons : Vec A A

@@ -1,0 +1,7 @@
+record R : Set where
+  constructor mk
+  field
+    p : Set
+    q : p
+postulate x : R
+postulate y : x .R.p .R.q

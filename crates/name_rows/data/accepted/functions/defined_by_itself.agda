@@ -1,0 +1,3 @@
+f : Set
+f = f
+f = Set

@@ -1,0 +1,8 @@
+record R : Set where
+  constructor mk
+  field
+    p : Set
+    q : p
+open R
+f : R
+f p .p = p

@@ -1,0 +1,2 @@
+module M where
+postulate A : Set

@@ -1,0 +1,3 @@
+postulate A : Set
+postulate x : A
+postulate y : x

@@ -1,0 +1,2 @@
+postulate A : Set
+postulate x : record { y = A ; z = Set }

@@ -1,0 +1,4 @@
+record S : Set where
+  coinductive
+  field
+    t : S

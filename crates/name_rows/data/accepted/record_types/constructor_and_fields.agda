@@ -1,0 +1,5 @@
+record R : Set where
+  constructor mk
+  field
+    p : Set
+    q : p

@@ -1,0 +1,1 @@
+postulate b : λ x → λ y → (λ x → x) x

@@ -1,0 +1,2 @@
+postulate A : Set
+postulate x : λ y → λ z → λ y → y z

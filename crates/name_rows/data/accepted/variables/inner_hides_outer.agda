@@ -1,0 +1,1 @@
+postulate a : λ x → λ y → λ x → x

@@ -1,0 +1,4 @@
+record R : Set where
+  field
+    p : Set
+    p : Set

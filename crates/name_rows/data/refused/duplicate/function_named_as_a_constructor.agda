@@ -1,0 +1,5 @@
+data Nat : Set where
+  zero : Nat
+  suc : Nat → Nat
+zero : Nat
+zero = zero

@@ -1,0 +1,5 @@
+data Nat : Set where
+  zero : Nat
+  suc : Nat → Nat
+record R : Set where
+  constructor suc

@@ -1,0 +1,7 @@
+record R : Set where
+  constructor mk
+  field
+    p : Set
+    q : p
+open R
+postulate x : p

@@ -1,0 +1,9 @@
+data Nat : Set where
+  zero : Nat
+  suc : Nat → Nat
+record R : Set where
+  field
+    p : Nat
+    q : p
+open R
+postulate b : q

@@ -1,0 +1,1 @@
+postulate x : ((y : Set) → y) → y

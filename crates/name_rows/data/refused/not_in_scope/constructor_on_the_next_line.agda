@@ -1,0 +1,3 @@
+data D : Set where
+  a : D
+  b : a

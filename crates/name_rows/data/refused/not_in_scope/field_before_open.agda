@@ -1,0 +1,6 @@
+record R : Set where
+  constructor mk
+  field
+    p : Set
+    q : p
+postulate x : p

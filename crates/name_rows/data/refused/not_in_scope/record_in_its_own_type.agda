@@ -1,0 +1,3 @@
+record R : R where
+  field
+    p : Set

@@ -1,0 +1,4 @@
+data D : Set where
+  a : D
+  b : E
+postulate x : D

@@ -1,0 +1,4 @@
+postulate
+  a : Set
+  b : c
+postulate d : a

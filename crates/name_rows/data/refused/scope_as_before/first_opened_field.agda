@@ -1,0 +1,8 @@
+record R : Set where
+  constructor mk
+  field
+    p : Set
+    q : p
+postulate q : Set
+open R
+postulate x : (y : R) → p y

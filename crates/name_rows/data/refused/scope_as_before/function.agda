@@ -1,0 +1,6 @@
+data Nat : Set where
+  zero : Nat
+  suc : Nat → Nat
+f : Nat → Nat
+f x = y
+postulate z : f

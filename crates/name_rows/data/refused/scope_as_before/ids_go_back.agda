@@ -1,0 +1,5 @@
+postulate
+  a : Set
+  b : c
+postulate d : Set
+postulate e : d

@@ -1,0 +1,2 @@
+postulate a : b
+postulate c : Set
