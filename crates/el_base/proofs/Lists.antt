@@ -33,7 +33,8 @@ get_either (y ∷ xs) ys zero x e = inl e
 get_either (y ∷ xs) ys (suc i) x e = ⊎_elim (λ h. inl h) (λ h. inr (h.0, omega (arith, h.1), h.2)) (get_either xs ys i x e)
 
 -- from its old length on, a list has the one item that was pushed
-pub get_last : {X : Type 0} (xs : List X) (x y : X) (i : ℕ) → length xs ≤ i → slice_get (xs ++ x ∷ []) i ≡ Some y → (x ≡ y) × (i ≡ length xs)
+pub get_last : {X : Type 0} (xs : List X) (x y : X) (i : ℕ) → length xs ≤ i → slice_get (xs ++ x ∷ []) i ≡ Some y
+    → (x ≡ y) × (i ≡ length xs)
 get_last [] x y zero l e = (same_Some x y e, refl)
 get_last [] x y (suc i) l e = absurd cc
 get_last (z ∷ xs) x y zero l e = absurd (omega (arith, l))

@@ -55,7 +55,8 @@ module _ {X : Type 0} (P : X → Type 0) where
   all-weaker Q w [] a = tt
   all-weaker Q w (x ∷ xs) a = (w x a.0, all-weaker Q w xs a.1)
 
-  pub all-map : {Y : Type 0} (Q : Y → Type 0) (f : X → Y) → ((x : X) → P x → Q (f x)) → (xs : List X) → AllByRecursion P xs → AllByRecursion Q (map f xs)
+  pub all-map : {Y : Type 0} (Q : Y → Type 0) (f : X → Y) → ((x : X) → P x → Q (f x)) → (xs : List X) → AllByRecursion P xs
+      → AllByRecursion Q (map f xs)
   all-map Q f w [] a = tt
   all-map Q f w (x ∷ xs) a = (w x a.0, all-map Q f w xs a.1)
 
