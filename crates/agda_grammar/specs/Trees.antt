@@ -12,8 +12,6 @@ use Rattle.source_tree.specs.declared.expr.FieldValue.{FieldValue}
 use Rattle.source_tree.specs.Places.{joined, expr_place, arg_place}
 use Rattle.agda_grammar.specs.declared.sign.Kind.{Kind}
 use Rattle.agda_grammar.specs.declared.sign.Kind.TheVariants as k
-use Rattle.agda_grammar.specs.declared.sign.Mark.{Mark}
-use Rattle.agda_grammar.specs.declared.sign.Sign.{Sign}
 use Rattle.agda_grammar.specs.declared.bracket.Bracket.{Bracket}
 use Rattle.agda_grammar.specs.declared.bracket.Bracket.TheVariants.{Round, Curly}
 

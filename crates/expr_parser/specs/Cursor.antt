@@ -1,5 +1,5 @@
 -- What is seen of the signs that are left, how one is taken, and what a function that reads has done.
-use Rattle.std.specs.Prelude.{◌≡◌, ◌≢◌, ℕ, Bool, true, false, ◌&&◌, if◌then◌else◌, List, [], ◌∷◌, Option, Some, None, Result, Ok, Err}
+use Rattle.std.specs.Prelude.{◌≡◌, ◌≢◌, ℕ, Bool, true, false, ◌&&◌, if◌then◌else◌, [], ◌∷◌, Option, Some, None, Result, Ok, Err}
 use denote.Enum.Bare.{sameb}
 use Rattle.agda_grammar.specs.contracts.sign.Kind.{the_type}
 use Rattle.agda_grammar.specs.Signs.{Input}

@@ -9,13 +9,16 @@ use std::alloc::AllocError;
 pub fn put_expr(lines: &mut Lines, expr: &Expr) -> Result<(), AllocError> {
     match expr {
         Expr::Pi(place, binders, body) => {
-            put_bound(lines, "Expr::Pi", *place, binders, body.get())
+            put_bound(lines, "Expr::Pi", *place, binders)?;
+            put_body(lines, body.get())
         }
         Expr::Forall(place, binders, body) => {
-            put_bound(lines, "Expr::Forall", *place, binders, body.get())
+            put_bound(lines, "Expr::Forall", *place, binders)?;
+            put_body(lines, body.get())
         }
         Expr::Lambda(place, binders, body) => {
-            put_bound(lines, "Expr::Lambda", *place, binders, body.get())
+            put_bound(lines, "Expr::Lambda", *place, binders)?;
+            put_body(lines, body.get())
         }
         Expr::Arrow(place, left, right) => {
             lines.node("Expr::Arrow", *place)?;
@@ -56,18 +59,22 @@ fn put_level(lines: &mut Lines, place: Place, level: Level) -> Result<(), AllocE
     lines.end()
 }
 
-/// The lines of binders and of what they bind names in.
+/// The line of a node, and those of its binders.
 #[cycle(put)]
 fn put_bound(
     lines: &mut Lines,
     word: &str,
     place: Place,
     binders: &Items<Binder>,
-    body: &Expr,
 ) -> Result<(), AllocError> {
     lines.node(word, place)?;
     lines.down();
-    put_binders(lines, binders)?;
+    put_binders(lines, binders)
+}
+
+/// The lines of what binders bind names in, as the last part of a node.
+#[cycle(put)]
+fn put_body(lines: &mut Lines, body: &Expr) -> Result<(), AllocError> {
     put_expr(lines, body)?;
     lines.up();
     Ok(())

@@ -14,7 +14,6 @@ mod rows;
 use lines::Lines;
 use read::MOST;
 use rows::{Before, Shown, put_expr_row, put_file_row};
-use std::env::Env;
 use std::rt::Files;
 use std::{env, fs, io};
 
