@@ -7,3 +7,4 @@ pub mod Signature
 pub mod Derivations
 pub mod Heads
 pub mod Trees
+pub mod Scope

@@ -22,3 +22,4 @@ pub mod BoundedLaws
 pub mod Addition
 pub mod TreeLaws
 pub mod VectorHead
+pub mod ScopeLaws

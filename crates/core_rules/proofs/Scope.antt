@@ -1,0 +1,2 @@
+-- What keeps scope.
+pub mod Changed
