@@ -8,3 +8,4 @@ pub mod Derivations
 pub mod Heads
 pub mod Trees
 pub mod Scope
+pub mod Names

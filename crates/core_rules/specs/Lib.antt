@@ -23,3 +23,4 @@ pub mod Addition
 pub mod TreeLaws
 pub mod VectorHead
 pub mod ScopeLaws
+pub mod NameLaws

@@ -6,6 +6,7 @@ pub mod bounded_examples;
 pub mod bounded_laws;
 pub mod examples;
 pub mod laws;
+pub mod name_laws;
 pub mod scope_laws;
 pub mod tree_laws;
 

@@ -1,0 +1,3 @@
+-- Names count for nothing.
+pub mod Alike
+pub mod Typed
