@@ -1,7 +1,7 @@
 //! Names on binders count for nothing. Each law is the contract of a function that does nothing.
 //! The statements stand in `specs/NameLaws.antt`, under the same names.
 
-ghost use Rattle.core_rules.specs.NameLaws.{ShiftOfSameTerms, SubstitutionOfSameTerms, EnvironmentOfSameTerms, ReplacedOfSameTerms, ScopeOfSameTerms, TypingOfSameTerms};
+ghost use Rattle.core_rules.specs.NameLaws.{ShiftOfSameTerms, SubstitutionOfSameTerms, EnvironmentOfSameTerms, ReplacedOfSameTerms, ScopeOfSameTerms, TypingOfSameTerms, HeadFormOfSameTerms, VerdictOfSameTerms};
 
 /// Shifts of the same term are the same term.
 pub fn shift_of_same_terms()
@@ -31,4 +31,14 @@ pub fn scope_of_same_terms()
 /// The same term has the same type in the same context.
 pub fn typing_of_same_terms()
     ensures { TypingOfSameTerms }
+{}
+
+/// The same term under the same eliminations comes to the same head form, in as many steps.
+pub fn head_form_of_same_terms()
+    ensures { HeadFormOfSameTerms }
+{}
+
+/// The same two terms have the same verdict.
+pub fn verdict_of_same_terms()
+    ensures { VerdictOfSameTerms }
 {}
