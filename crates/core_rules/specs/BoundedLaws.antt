@@ -8,7 +8,7 @@ use Rattle.core_rules.specs.Mapped.{signature_map, AllDecl}
 use Rattle.core_rules.specs.Elimination.{Elim, Arg, Field, elims, projections}
 use Rattle.core_rules.specs.Run.{spread, kept}
 use Rattle.core_rules.specs.Conversion.{Conv}
-use Rattle.core_rules.specs.InScope.{IsAcyclic, SignatureInScope, any_meta}
+use Rattle.core_rules.specs.InScope.{IsAcyclic, FamiliesHaveShape, SignatureInScope, any_meta}
 use Rattle.core_rules.specs.Heads.{Solutions, Answer, Form, Blocked, Taken, taken, Choice, Enters, Stays, Waits, choice, Heads, Follows, After, Bounded, Within, Out, HeadOf}
 use Rattle.core_rules.specs.Steps.{Makes}
 use Rattle.core_rules.specs.Bounded.{Verdict, Yes, No, OutOfFuel, OutOfDepth, WaitsFor, same_flag, full, AreSame, ConvOf}
@@ -263,3 +263,7 @@ NothingToReplaceInSignature = (g : Signature Term) → signature_map (replace no
 
 abbrev pub HeadFormAgain : Type 0
 HeadFormAgain = (g : Signature Term) (s : Solutions) (t : Term) (es : List Elim) (w : Answer) (n : ℕ) → Heads g s t es w n → (m : ℕ) × Heads g s (shown w) [] w m × (m ≤ n)
+
+-- any solutions f, put in once
+abbrev pub ReplacedConversion : Type 0
+ReplacedConversion = (g : Signature Term) (f : Solutions) (t u : Term) → FamiliesHaveShape g → Conv g t u → Conv (signature_map (replace f) g) (replace f t) (replace f u)

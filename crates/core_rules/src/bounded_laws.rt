@@ -1,7 +1,7 @@
 //! Laws of bounded head forms and bounded conversion. Each is the contract of a function that does nothing.
 //! The statements stand in `specs/BoundedLaws.antt`, under the same names.
 
-ghost use Rattle.core_rules.specs.BoundedLaws.{OneHeadForm, OneBoundedHeadForm, MoreFuel, NextOfTerm, NextOfTree, NextOfChoice, StepsAreNeeded, OutMakesMore, BoundedHeadFormStands, BlockedByUnsolved, FullSolutions, ReplacedHeadForm, ReplacedHeadFormBack, ReplacedBoundedHeadForm, ReplacedVerdict, NothingToReplace, ReplacedSignature, HeadFormConverts, SameByFullSolutions, OneVerdict, VerdictStands, MoreFuelForVerdict, MoreDepth, YesConverts, OneFull, InstantiatedByRank, InstantiatedByNumber, NoSolvedLeft, NothingToReplaceInSignature, HeadFormAgain};
+ghost use Rattle.core_rules.specs.BoundedLaws.{OneHeadForm, OneBoundedHeadForm, MoreFuel, NextOfTerm, NextOfTree, NextOfChoice, StepsAreNeeded, OutMakesMore, BoundedHeadFormStands, BlockedByUnsolved, FullSolutions, ReplacedHeadForm, ReplacedHeadFormBack, ReplacedBoundedHeadForm, ReplacedVerdict, NothingToReplace, ReplacedSignature, HeadFormConverts, SameByFullSolutions, OneVerdict, VerdictStands, MoreFuelForVerdict, MoreDepth, YesConverts, OneFull, InstantiatedByRank, InstantiatedByNumber, NoSolvedLeft, NothingToReplaceInSignature, HeadFormAgain, ReplacedConversion};
 
 /// A term under eliminations comes to one answer, in one number of steps.
 pub fn one_head_form()
@@ -156,4 +156,9 @@ pub fn nothing_to_replace_in_signature()
 /// A head form comes to itself, in no more steps.
 pub fn head_form_again()
     ensures { HeadFormAgain }
+{}
+
+/// Conversion is kept where metavariables are replaced, in the terms and in the signature.
+pub fn replaced_conversion()
+    ensures { ReplacedConversion }
 {}
