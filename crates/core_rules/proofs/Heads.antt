@@ -13,6 +13,7 @@ pub mod Same
 pub mod InFull
 pub mod Again
 pub mod NoSolutions
+pub mod ExactlyOne
 pub mod Untouched
 pub mod Gather
 pub mod Fit

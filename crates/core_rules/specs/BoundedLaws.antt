@@ -10,6 +10,7 @@ use Rattle.core_rules.specs.Run.{spread, kept}
 use Rattle.core_rules.specs.Conversion.{Conv}
 use Rattle.core_rules.specs.InScope.{IsAcyclic, FamiliesHaveShape, SignatureInScope, any_meta}
 use Rattle.core_rules.specs.Heads.{Solutions, Answer, Form, Blocked, Taken, taken, Choice, Enters, Stays, Waits, choice, Heads, Follows, After, Bounded, Within, Out, HeadOf}
+use Rattle.core_rules.specs.Unification.{Equation, Pairs}
 use Rattle.core_rules.specs.Steps.{Makes}
 use Rattle.core_rules.specs.Bounded.{Verdict, Yes, No, OutOfFuel, OutOfDepth, WaitsFor, same_flag, full, AreSame, ConvOf}
 
@@ -267,3 +268,17 @@ HeadFormAgain = (g : Signature Term) (s : Solutions) (t : Term) (es : List Elim)
 -- any solutions f, put in once
 abbrev pub ReplacedConversion : Type 0
 ReplacedConversion = (g : Signature Term) (f : Solutions) (t u : Term) → FamiliesHaveShape g → Conv g t u → Conv (signature_map (replace f) g) (replace f t) (replace f u)
+
+-- one thing, and no other, has the property
+abbrev pub ExactlyOne : {A : Type 0} → (A → Type 0) → Type 0
+ExactlyOne {A} P = (x : A) × P x × ((y : A) → P y → y ≡ x)
+
+abbrev pub ExactlyOneBoundedHeadForm : Type 0
+ExactlyOneBoundedHeadForm = (g : Signature Term) (s : Solutions) (t : Term) (fuel : ℕ) → IsAcyclic s → ExactlyOne (HeadOf g s t fuel)
+
+abbrev pub ExactlyOneVerdict : Type 0
+ExactlyOneVerdict = (g : Signature Term) (s : Solutions) (fuel depth : ℕ) (t u : Term) → IsAcyclic s → ExactlyOne (ConvOf g s fuel depth t u)
+
+-- of the arguments of two constructors
+abbrev pub OnePairing : Type 0
+OnePairing = (es ds : List Elim) (ps qs : List Equation) → Pairs es ds ps → Pairs es ds qs → ps ≡ qs

@@ -1,7 +1,7 @@
 //! Laws of bounded head forms and bounded conversion. Each is the contract of a function that does nothing.
 //! The statements stand in `specs/BoundedLaws.antt`, under the same names.
 
-ghost use Rattle.core_rules.specs.BoundedLaws.{OneHeadForm, OneBoundedHeadForm, MoreFuel, NextOfTerm, NextOfTree, NextOfChoice, StepsAreNeeded, OutMakesMore, BoundedHeadFormStands, BlockedByUnsolved, FullSolutions, ReplacedHeadForm, ReplacedHeadFormBack, ReplacedBoundedHeadForm, ReplacedVerdict, NothingToReplace, ReplacedSignature, HeadFormConverts, SameByFullSolutions, OneVerdict, VerdictStands, MoreFuelForVerdict, MoreDepth, YesConverts, OneFull, InstantiatedByRank, InstantiatedByNumber, NoSolvedLeft, NothingToReplaceInSignature, HeadFormAgain, ReplacedConversion};
+ghost use Rattle.core_rules.specs.BoundedLaws.{OneHeadForm, OneBoundedHeadForm, MoreFuel, NextOfTerm, NextOfTree, NextOfChoice, StepsAreNeeded, OutMakesMore, BoundedHeadFormStands, BlockedByUnsolved, FullSolutions, ReplacedHeadForm, ReplacedHeadFormBack, ReplacedBoundedHeadForm, ReplacedVerdict, NothingToReplace, ReplacedSignature, HeadFormConverts, SameByFullSolutions, OneVerdict, VerdictStands, MoreFuelForVerdict, MoreDepth, YesConverts, OneFull, InstantiatedByRank, InstantiatedByNumber, NoSolvedLeft, NothingToReplaceInSignature, HeadFormAgain, ReplacedConversion, ExactlyOneBoundedHeadForm, ExactlyOneVerdict, OnePairing};
 
 /// A term under eliminations comes to one answer, in one number of steps.
 pub fn one_head_form()
@@ -161,4 +161,19 @@ pub fn head_form_again()
 /// Conversion is kept where metavariables are replaced, in the terms and in the signature.
 pub fn replaced_conversion()
     ensures { ReplacedConversion }
+{}
+
+/// With acyclic solutions a term has exactly one bounded head form with one fuel.
+pub fn exactly_one_bounded_head_form()
+    ensures { ExactlyOneBoundedHeadForm }
+{}
+
+/// With acyclic solutions two terms have exactly one verdict.
+pub fn exactly_one_verdict()
+    ensures { ExactlyOneVerdict }
+{}
+
+/// The arguments of two constructors are paired in one way at most.
+pub fn one_pairing()
+    ensures { OnePairing }
 {}
