@@ -1,7 +1,7 @@
 -- What keeps scope: the statements of the laws.
-use Rattle.std.specs.Prelude.{◌≡◌, ℕ, ◌+◌, ◌<◌, ◌≤◌, Option, List, [], ◌∷◌, length, sum, slice_get, Some, zero, suc}
+use Rattle.std.specs.Prelude.{◌≡◌, ℕ, ◌+◌, ◌<◌, ◌≤◌, Option, List, [], ◌∷◌, length, sum, slice_get, Some}
 use Rattle.std.specs.List.{AllByRecursion}
-use Rattle.core_rules.specs.Term.{Term, Terms, env_of, to_list}
+use Rattle.core_rules.specs.Term.{Term, Terms, env_of}
 use Rattle.core_rules.specs.Substitution.{shift, subst, under, replace, instantiate}
 use Rattle.core_rules.specs.Signature.{Entry, Context, Signature, FamDecl, def_type, fam_decl, field_counts}
 use Rattle.core_rules.specs.Elimination.{Elim, Arg, Field, fam_type, con_type}

@@ -1,17 +1,16 @@
 -- Conversion is kept where solved metavariables are replaced, in the terms and in the signature. A run passes up to conversion: where a
 -- metavariable becomes a record's constructor, a record split takes its arguments in place of projections.
-use Rattle.std.specs.Prelude.{◌≡◌, ℕ, ◌+◌, Bool, true, false, ◌&&◌, cond, eqb, List, [], ◌∷◌, ◌++◌, length, map, take, drop, reverse, slice_get, Option, Some, None, option_map, option_and_then, unwrap_or, refl, zero, suc}
+use Rattle.std.specs.Prelude.{◌≡◌, ℕ, ◌+◌, Bool, true, false, ◌&&◌, cond, eqb, List, [], ◌∷◌, ◌++◌, length, map, take, drop, slice_get, Option, Some, None, option_map, option_and_then, unwrap_or, refl, zero, suc}
 use Rattle.std.specs.Option.{option_map_or}
-use Rattle.std.proofs.Common.{ap, ap₂, sym, ◌∙◌, subst as transport, arith}
+use Rattle.std.proofs.Common.{ap, ap₂, sym, ◌∙◌, arith}
 use Rattle.std.proofs.lemmas.List.{length-map}
 use Rattle.std.proofs.lemmas.Option.{slice_get-map}
 use mathlib.Core.List.{reverse_aux}
-use Rattle.core_rules.specs.declared.Flag.{Flag}
-use Rattle.core_rules.specs.Term.{Term, Terms, Var, Sort, Pi, Lam, App, Def, Fam, Con, Proj, Meta, End, And, to_list, env_of}
-use Rattle.core_rules.specs.Substitution.{shift, subst, value_at, under, put_solution, replace, replace_all}
-use Rattle.core_rules.specs.Signature.{Signature, Branch, Tree, Telescope, co_branch, con_branch, FamDecl, fams, con_place, fam_decl, field_place, fields_of, tree_of}
-use Rattle.core_rules.specs.Mapped.{entry_map, telescope_map, con_map, fam_map, branch_map, tree_map, co_branches_map, con_branches_map, signature_map}
-use Rattle.core_rules.specs.Elimination.{Elim, Arg, Field, elims, args, projections}
+use Rattle.core_rules.specs.Term.{Term, Terms, Var, Sort, Pi, Lam, App, Def, Fam, Con, Proj, Meta, to_list}
+use Rattle.core_rules.specs.Substitution.{value_at, under, put_solution, replace, replace_all}
+use Rattle.core_rules.specs.Signature.{Signature, Tree, Telescope, FamDecl, fam_decl, fields_of}
+use Rattle.core_rules.specs.Mapped.{telescope_map, fam_map, tree_map, signature_map}
+use Rattle.core_rules.specs.Elimination.{Elim, Arg, elims, args, projections}
 use Rattle.core_rules.specs.Run as run
 use Rattle.core_rules.specs.Run.{Run, ConApp, con_app, takes, is_record_con, full_con, parts, spread, kept}
 use Rattle.core_rules.specs.Conversion as C
@@ -19,15 +18,14 @@ use Rattle.core_rules.specs.Conversion.{Conv, ConvAll, IsEtaCon, IsArgument}
 use Rattle.core_rules.specs.Laws.{RunsTo}
 use Rattle.core_rules.specs.InScope.{FamiliesHaveShape}
 use Rattle.core_rules.specs.Heads.{Solutions}
-use Rattle.core_rules.specs.BoundedLaws.{replace_elim, replace_elims}
+use Rattle.core_rules.specs.BoundedLaws.{replace_elims}
 use Rattle.core_rules.proofs.Conversion.Changed.{conv-elims, conv_by}
 use Rattle.core_rules.proofs.Conversion.Shifted as W
 use Rattle.core_rules.proofs.Conversion.Shifted.{ConvEnv, conv-under}
 use Rattle.core_rules.proofs.Run.Records.{record_term, argument}
-use Rattle.core_rules.proofs.Heads.OneAnswer.{one_some}
-use Rattle.core_rules.proofs.Heads.Mapped.{tree_of-map, con_decl-map, fam_decl-map, con_place-map, field_place-map, fields_of-map, co_branch-map, con_branch-map, goes_map}
-use Rattle.core_rules.proofs.Heads.Replace.{replace-shift, replace-subst, replace-under, replace-value_at, env_of-replace_all}
-use Rattle.core_rules.proofs.Heads.Replaced.{image, takes-image, replace-elims, map-projections, map-spread}
+use Rattle.core_rules.proofs.Heads.Mapped.{tree_of-map, fam_decl-map, con_place-map, field_place-map, fields_of-map, co_branch-map, con_branch-map, goes_map}
+use Rattle.core_rules.proofs.Heads.Replace.{replace-shift, replace-subst, replace-under}
+use Rattle.core_rules.proofs.Heads.Replaced.{image, takes-image, replace-elims, map-projections}
 use Rattle.core_rules.proofs.Heads.HeadConverts.{eta_con_image}
 use Rattle.core_rules.proofs.Heads.NoSolutions.{shapes_image}
 

@@ -1,5 +1,5 @@
 -- A head form is its own head form, in no more steps.
-use Rattle.std.specs.Prelude.{◌≡◌, ◌⊎◌, ℕ, ◌+◌, ◌≤◌, List, [], ◌∷◌, ◌++◌, refl, zero, suc}
+use Rattle.std.specs.Prelude.{◌≡◌, ◌⊎◌, ℕ, ◌+◌, ◌≤◌, List, [], ◌∷◌, ◌++◌, refl, suc}
 use Rattle.std.proofs.Common.{sym, subst as transport, subst₂, arith, inl, inr, append-nil}
 use Rattle.core_rules.specs.Term.{Term, App, Def, Proj}
 use Rattle.core_rules.specs.Signature.{Tree, Signature}

@@ -3,7 +3,7 @@ use Rattle.std.specs.Prelude.{◌≡◌, ℕ, List, [], ◌∷◌, refl}
 use Rattle.std.proofs.Common.{ap, sym, ◌∙◌}
 use Rattle.core_rules.specs.Term.{Term}
 use Rattle.core_rules.specs.Signature.{Signature}
-use Rattle.core_rules.specs.Elimination.{Elim, Arg, Field}
+use Rattle.core_rules.specs.Elimination.{Elim, Arg}
 use Rattle.core_rules.specs.InScope.{IsAcyclic}
 use Rattle.core_rules.specs.Unification as U
 use Rattle.core_rules.specs.Unification.{Equation, eq, Pairs}

@@ -6,8 +6,6 @@ use Rattle.std.proofs.lemmas.Grind.{common_steps}
 use mathlib.Core.List.{reverse_aux}
 use Rattle.core_rules.specs.Term.{Term, Terms, Var, Sort, Pi, Lam, App, Def, Fam, Con, Proj, Meta, End, And, to_list, env_of, AllMetas, AllMetasIn}
 use Rattle.core_rules.specs.Substitution.{over, over_all, shift, shift_var, value_at, env_var, under, put_solution, replace, replace_all, instantiate}
-use Rattle.core_rules.specs.Signature.{Signature}
-use Rattle.core_rules.specs.Mapped.{signature_map}
 use Rattle.core_rules.specs.InScope.{IsAcyclic}
 use Rattle.core_rules.specs.Heads.{Solutions}
 use Rattle.core_rules.specs.Bounded.{full}
@@ -144,7 +142,7 @@ module _ (s f : Solutions) (a : IsAcyclic s) (x : IsFull s f) where
       replace_alike (λ m. option_map (instantiate n s) (s m)) f t
       (weaker (λ m. a.rank m < b) (λ m. option_map (instantiate n s) (s m) ≡ f m)
       (λ m r. each_solved s f a x n b ms (instantiate n s)
-          (λ m u e r. deep_enough n (a.rank m) (without m ms) u (let c = fewer m ms (h m u e r) in omega (arith, c, l)) (among_rest s f a x b m ms u r h) (a.falls m u e)) m (s m) refl r) t p)
+      (λ m u e r. deep_enough n (a.rank m) (without m ms) u (let c = fewer m ms (h m u e r) in omega (arith, c, l)) (among_rest s f a x b m ms u r h) (a.falls m u e)) m (s m) refl r) t p)
 
   pub by_number : (ms : List ℕ) (t : Term) → ((m : ℕ) (u : Term) → s m ≡ Some u → Member m ms) → instantiate (length ms) s t ≡ replace f t
   by_number ms t h = deep_enough (length ms) (bound a.rank t) ms t (omega arith) (λ m u e r. h m u e) (within a.rank (bound a.rank t) t (omega arith))

@@ -1,5 +1,5 @@
 -- Without solutions a signature stays as it is; families keep their shape when metavariables are replaced.
-use Rattle.std.specs.Prelude.{◌≡◌, ℕ, ◌<◌, List, [], ◌∷◌, map, Option, Some, None, option_map, refl}
+use Rattle.std.specs.Prelude.{◌≡◌, ◌<◌, List, [], ◌∷◌, map, Option, Some, None, option_map, refl}
 use Rattle.std.specs.List.{AllByRecursion}
 use Rattle.std.proofs.Common.{ap, sym, ◌∙◌, subst as transport}
 use Rattle.std.proofs.lemmas.List.{length-map}

@@ -1,5 +1,5 @@
 -- Terms that are the same up to names, as a relation by cases, and what keeps them so.
-use Rattle.std.specs.Prelude.{◌≡◌, ℕ, ◌+◌, ◌-◌, Bool, true, false, cond, ltb, eqb, List, [], ◌∷◌, ◌++◌, length, map, reverse, Option, Some, None, refl, zero, suc}
+use Rattle.std.specs.Prelude.{◌≡◌, ℕ, ◌+◌, ◌-◌, Bool, true, false, cond, ltb, eqb, List, [], ◌∷◌, ◌++◌, length, reverse, Option, Some, None, refl, zero, suc}
 use Rattle.std.proofs.Common.{ap, sym, ◌∙◌, subst as transport}
 use mathlib.Core.List.{reverse_aux}
 use Rattle.core_rules.specs.declared.Flag.{Flag}

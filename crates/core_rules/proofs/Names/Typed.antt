@@ -1,10 +1,8 @@
 -- Typing does not see names.
-use Rattle.std.specs.Prelude.{◌≡◌, ℕ, ◌+◌, List, [], ◌∷◌, ◌++◌, map, reverse, take, zero, suc}
-use Rattle.std.proofs.Common.{subst as transport}
-use Rattle.core_rules.specs.Term.{Term, Terms, Proj, env_of, IsSameTerm}
-use Rattle.core_rules.specs.Substitution.{under}
+use Rattle.std.specs.Prelude.{ℕ, List, [], ◌∷◌, map, take, zero, suc}
+use Rattle.core_rules.specs.Term.{Term, Proj, IsSameTerm}
 use Rattle.core_rules.specs.Signature.{Signature, Context, fields_of}
-use Rattle.core_rules.specs.Elimination.{projections, con_type}
+use Rattle.core_rules.specs.Elimination.{con_type}
 use Rattle.core_rules.specs.Conversion as C
 use Rattle.core_rules.specs.Conversion.{Conv}
 use Rattle.core_rules.specs.Typing as T

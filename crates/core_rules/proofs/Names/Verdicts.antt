@@ -1,13 +1,12 @@
 -- Bounded conversion does not see names.
-use Rattle.std.specs.Prelude.{◌≡◌, ◌≢◌, ℕ, ◌⊎◌, ◌+◌, ◌<◌, Bool, true, false, ◌&&◌, eqb, cond, List, [], ◌∷◌, ◌++◌, length, map, Option, Some, None, option_map, option_and_then, refl, zero, suc}
-use Rattle.std.proofs.Common.{ap, sym, ◌∙◌, subst as transport, inl, inr}
+use Rattle.std.specs.Prelude.{◌≡◌, ◌≢◌, ℕ, ◌+◌, Bool, true, false, ◌&&◌, eqb, cond, List, [], ◌∷◌, length, Option, Some, None, option_map, option_and_then, refl, zero, suc}
+use Rattle.std.proofs.Common.{sym, ◌∙◌, subst as transport, inl, inr}
 use Rattle.std.proofs.lemmas.List.{length-append}
 use Rattle.core_rules.specs.declared.Flag.{Flag}
-use Rattle.core_rules.specs.Term.{Term, Terms, Var, Sort, Pi, Lam, App, Def, Fam, Con, Proj, Meta, IsSameTerm, nameless}
-use Rattle.core_rules.specs.Substitution.{replace}
+use Rattle.core_rules.specs.Term.{Term, IsSameTerm}
 use Rattle.core_rules.specs.Signature.{Signature, Telescope, FamDecl, ConDecl, con_place, con_decl, fam_decl, fields_of}
-use Rattle.core_rules.specs.Elimination.{Elim, Arg, Field, elims, projections}
-use Rattle.core_rules.specs.Heads.{Solutions, Answer, Form, Blocked, Heads, Bounded, Within, Out, HeadOf}
+use Rattle.core_rules.specs.Elimination.{Elim, Arg, Field}
+use Rattle.core_rules.specs.Heads.{Solutions, Answer, Bounded, Within, Out, HeadOf}
 use Rattle.core_rules.specs.Bounded.{Verdict, Yes, No, OutOfFuel, OutOfDepth, WaitsFor, Part, Pair, Decision, Now, Parts, same_flag, with_part, argument_parts, term_parts, Cut, cut_more, last_field, Lambda, lambda, applied, fitting, RecordValue, record_value, Kind, Value, Constructor, Neither, con_kind, kind, parts_or, if_one, same_heads, by_field, by_kind, by_lambda, decide, below, InOrder, Decided, full, AreSame, ByHeads, ConvOf}
 use Rattle.core_rules.specs.NameLaws.{IsSameVerdict}
 use Rattle.core_rules.proofs.Names.Alike as A

@@ -1,5 +1,5 @@
 -- Shifts, substitutions, environments and replaced solutions keep scope.
-use Rattle.std.specs.Prelude.{◌≡◌, ℕ, ◌+◌, ◌-◌, ◌<◌, ◌≤◌, Bool, true, false, eqb, ltb, cond, List, [], ◌∷◌, ◌++◌, length, reverse, Option, Some, None, option_map, refl, zero, suc}
+use Rattle.std.specs.Prelude.{◌≡◌, ℕ, ◌+◌, ◌-◌, ◌<◌, ◌≤◌, Bool, true, false, eqb, ltb, cond, List, [], ◌∷◌, length, reverse, Option, Some, None, option_map, refl, zero, suc}
 use Rattle.std.specs.List.{AllByRecursion}
 use Rattle.std.proofs.Common.{ap, sym, ◌∙◌, subst as transport, arith}
 use Rattle.std.proofs.lemmas.Grind.{common_steps}
@@ -138,4 +138,3 @@ module _ (g : Signature Term) (M : ℕ → ℕ → Type 0) where
     unfolding instantiate
     instantiate-in_scope zero n t h = h
     instantiate-in_scope (suc deep) n t h = replace-in_scope (λ m. option_map (instantiate deep s) (s m)) (λ m c u a e. deeper (instantiate deep s) m c u (s m) (λ v h. instantiate-in_scope deep c v h) refl a e) n t h
-

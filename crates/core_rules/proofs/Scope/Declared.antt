@@ -1,15 +1,15 @@
 -- The types that the rules of typing give are in scope.
-use Rattle.std.specs.Prelude.{◌≡◌, ℕ, ◌+◌, ◌<◌, ◌≤◌, List, [], ◌∷◌, ◌++◌, length, map, sum, take, reverse, slice_get, Option, Some, None, option_and_then, refl, zero, suc}
+use Rattle.std.specs.Prelude.{◌≡◌, ℕ, ◌+◌, ◌<◌, ◌≤◌, List, [], ◌∷◌, ◌++◌, length, map, sum, take, slice_get, Option, Some, None, option_and_then, refl, zero, suc}
 use Rattle.std.specs.List.{AllByRecursion}
-use Rattle.std.proofs.Common.{ap, sym, ◌∙◌, subst as transport, arith}
+use Rattle.std.proofs.Common.{ap, ◌∙◌, subst as transport, arith}
 use Rattle.std.proofs.lemmas.Option.{slice_get_within}
 use Rattle.core_rules.specs.Term.{Term, Terms, App, Fam, Proj, env_of}
 use Rattle.core_rules.specs.Substitution.{shift, under}
 use Rattle.core_rules.specs.Signature.{Signature, Entry, Context, Telescope, onto, FamDecl, ConDecl, Decl, Family, without_cons, defs, fams, decl_type, def_type, fam_decl, places, field_counts, fields_of}
-use Rattle.core_rules.specs.Elimination.{Elim, Arg, Field, elims, args, pi_over, vars_from, projections, fam_type, con_type}
+use Rattle.core_rules.specs.Elimination.{Elim, Arg, Field, elims, args, vars_from, projections, fam_type, con_type}
 use Rattle.core_rules.specs.Typing as T
 use Rattle.core_rules.specs.Typing.{IsCon, IsField, WellFormed, field_env}
-use Rattle.core_rules.specs.InScope.{InScope, TelescopeInScope, ConInScope, FamilyInScope, DeclInScope, SignatureInScope, any_meta}
+use Rattle.core_rules.specs.InScope.{InScope, TelescopeInScope, ConInScope, SignatureInScope, any_meta}
 use Rattle.core_rules.specs.ScopeLaws.{ElimInScope, ContextInScope}
 use Rattle.core_rules.proofs.Substitution.Lifted.{shift_twice}
 use Rattle.core_rules.proofs.Signature.Places.{def_stands, fam_stands, field-place}

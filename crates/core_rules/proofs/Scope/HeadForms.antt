@@ -1,18 +1,18 @@
 -- Head forms keep scope.
-use Rattle.std.specs.Prelude.{◌≡◌, ℕ, ◌+◌, ◌<◌, Bool, true, false, ◌&&◌, eqb, cond, List, [], ◌∷◌, ◌++◌, length, map, sum, take, drop, reverse, slice_get, Option, Some, None, option_map, refl, zero, suc}
+use Rattle.std.specs.Prelude.{◌≡◌, ℕ, ◌+◌, Bool, true, false, ◌&&◌, eqb, cond, List, [], ◌∷◌, ◌++◌, length, map, take, drop, reverse, slice_get, Option, Some, None, option_map, refl, zero, suc}
 use Rattle.std.specs.List.{AllByRecursion}
-use Rattle.std.proofs.Common.{sym, subst as transport, arith}
-use Rattle.core_rules.specs.Term.{Term, Var, Sort, Pi, Lam, App, Def, Fam, Con, Proj, Meta, to_list}
+use Rattle.std.proofs.Common.{subst as transport, arith}
+use Rattle.core_rules.specs.Term.{Term, Var, Sort, Pi, Lam, App, Def, Fam, Con, Proj, Meta}
 use Rattle.core_rules.specs.Substitution.{value_at}
-use Rattle.core_rules.specs.Signature.{Signature, Branch, Tree, CoBranches, ConBranches, Leaf, Intro, Cosplit, Split, RecordSplit, Absurd, NoField, OnField, NoCon, Refuted, Goes, co_branch, con_branch, field_place, tree_of, Function}
+use Rattle.core_rules.specs.Signature.{Signature, Branch, Tree, CoBranches, ConBranches, NoField, OnField, NoCon, Refuted, Goes, co_branch, con_branch, field_place, tree_of, Function}
 use Rattle.core_rules.specs.Elimination.{Elim, Arg, Field, projections}
-use Rattle.core_rules.specs.Run.{ConApp, con_app, takes, spread, kept}
+use Rattle.core_rules.specs.Run.{ConApp, con_app, takes, spread}
 use Rattle.core_rules.specs.InScope.{InScope, TreeInScope, CoBranchesInScope, ConBranchesInScope, SignatureInScope, SolutionsInScope}
 use Rattle.core_rules.specs.Heads.{Solutions, Answer, Form, Blocked, is_first, argument_of, Taken, taken, Choice, Enters, Heads, form, argument, projection, beta, project, replaced, unsolved, call, Follows, leaf, intro, cosplit, split, record_split, stuck, After, enters, stays, waits}
 use Rattle.core_rules.specs.BoundedLaws.{shown}
 use Rattle.core_rules.specs.ScopeLaws.{ElimInScope, AnswerInScope}
 use Rattle.core_rules.proofs.Heads.OneAnswer.{one_some}
-use Rattle.core_rules.proofs.Heads.Sound.{cond_some, by_full_con, Entered, entered}
+use Rattle.core_rules.proofs.Heads.Sound.{cond_some, by_full_con, entered}
 use Rattle.core_rules.proofs.Heads.Regular.{function_stands}
 use Rattle.core_rules.proofs.Run.Records.{goes_on}
 use Rattle.core_rules.proofs.Scope.Known.{KnowsIds, knows_function, in_scope-known}
@@ -121,9 +121,10 @@ module _ (g : Signature Term) (M : ℕ → ℕ → Type 0) (n : ℕ) where
       follows-in_scope {r = r} j v m (split {k = i} {bs = bs} {v = u} d a) q x y z k =
           let p = heads-in_scope d (each_at g M n r i z) tt in
           after-in_scope j v a x y z k (λ b T us e.
-          let c = entered g bs u b T us e in
-          (con_branch-in_scope j M m bs c.con.con b T q.1 c.branch,
-          transport (Each g M n) c.is (con_app-in_scope (shown u) [] c.con (by_full_con g (shown u) c.con c.full).0 (shown-in_scope u p) tt)))
+          let c = entered g bs u b T us e in (
+            con_branch-in_scope j M m bs c.con.con b T q.1 c.branch,
+            transport (Each g M n) c.is (con_app-in_scope (shown u) [] c.con (by_full_con g (shown u) c.con c.full).0 (shown-in_scope u p) tt),
+          ))
       follows-in_scope {r = r} j v m (record_split {k = i} {d = f} d) q x y z k =
           follows-in_scope j v _ d q.2 x y (each-spread i (projections g f (value_at r i)) r (projections-in_scope g M n f (value_at r i) (each_at g M n r i z)) z) k
       follows-in_scope j v m (stuck p) q x y z k = (x, y)

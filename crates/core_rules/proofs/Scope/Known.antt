@@ -1,11 +1,10 @@
 -- What is in scope over a signature is in scope over one that knows as much.
-use Rattle.std.specs.Prelude.{◌≡◌, ℕ, ◌+◌, ◌<◌, ◌≤◌, List, [], ◌∷◌, ◌++◌, length, map, sum, take, drop, slice_get, Some, None, Option, option_map, option_and_then, refl, zero, suc}
-use Rattle.std.specs.List.{AllByRecursion}
+use Rattle.std.specs.Prelude.{◌≡◌, ℕ, ◌+◌, ◌≤◌, List, [], ◌∷◌, ◌++◌, length, map, sum, take, drop, slice_get, Some, None, Option, option_map, option_and_then, refl, zero, suc}
 use Rattle.std.proofs.Common.{ap, sym, ◌∙◌, subst as transport, arith, append-nil}
 use Rattle.std.proofs.lemmas.Grind.{common_steps}
 use Rattle.std.proofs.lemmas.List.{length-append, map-append, take-append-drop}
 use Rattle.core_rules.specs.Term.{Term, Terms, Var, Sort, Pi, Lam, App, Def, Fam, Con, Proj, Meta, End, And, to_list}
-use Rattle.core_rules.specs.Signature.{Signature, Telescope, FamDecl, ConDecl, Decl, Family, Open, Function, CoreClause, Tree, CoBranches, ConBranches, Leaf, Intro, Cosplit, Split, RecordSplit, Absurd, NoField, OnField, NoCon, Refuted, Goes, without_cons, defs, fams, fam_decl, places, con_place, con_decl, field_counts, con_counts}
+use Rattle.core_rules.specs.Signature.{Signature, Telescope, FamDecl, Decl, Family, Open, Function, CoreClause, Tree, without_cons, defs, fams, fam_decl, places, con_place, field_counts, con_counts}
 use Rattle.core_rules.specs.InScope.{InScope, AllInScope, TelescopeInScope, con_params}
 use Rattle.core_rules.proofs.Signature.Known.{defs-append, fams-append, fam-known, con-place-known, places-append}
 use Rattle.std.proofs.lemmas.Option.{slice_get-map}
@@ -35,7 +34,7 @@ knows_append g h = record {
   families = let e = ap length (fams-append g h) ∙ length-append (fams g) (fams h) in omega (arith, e);
   fields =
       let e = ap (λ ds. sum (map (λ d. length d.fields) ds)) (fams-append g h)
-          ∙ (ap sum (map-append (λ d. length d.fields) (fams g) (fams h)) ∙ sum-append (field_counts g) (field_counts h)) in
+      ∙ (ap sum (map-append (λ d. length d.fields) (fams g) (fams h)) ∙ sum-append (field_counts g) (field_counts h)) in
       omega (arith, e);
   params = λ k n e.
       let p = goes_on (λ p. option_map (λ d. length d.params) (fam_decl g p.0)) (con_place g k) n e in

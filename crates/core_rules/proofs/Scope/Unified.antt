@@ -1,11 +1,11 @@
 -- The steps of unification keep scope.
-use Rattle.std.specs.Prelude.{◌≡◌, ℕ, ◌+◌, ◌<◌, Bool, true, false, eqb, cond, List, [], ◌∷◌, ◌++◌, length, map, Some, refl}
+use Rattle.std.specs.Prelude.{◌≡◌, ℕ, ◌+◌, ◌<◌, Bool, true, false, eqb, cond, List, [], ◌∷◌, ◌++◌, length, map, Some}
 use Rattle.std.specs.List.{AllByRecursion}
 use Rattle.std.proofs.Common.{subst as transport, arith}
 use Rattle.core_rules.specs.Term.{Term, Var, Sort, Pi, Lam, App, Def, Fam, Con, Proj, Meta}
 use Rattle.core_rules.specs.Substitution.{shift}
 use Rattle.core_rules.specs.Signature.{Signature, Context}
-use Rattle.core_rules.specs.Elimination.{Elim, Arg, Field}
+use Rattle.core_rules.specs.Elimination.{Elim, Arg}
 use Rattle.core_rules.specs.InScope.{InScope}
 use Rattle.core_rules.specs.Unification as U
 use Rattle.core_rules.specs.Unification.{Equation, eq, Solution, State, St, put, put_var, put_equation, put_in_solution, con_spine, Pairs, Step, solve, whole_types, begin}

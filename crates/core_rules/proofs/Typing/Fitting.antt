@@ -1,10 +1,10 @@
 -- Environments that fit: the variables themselves, weakening, one under another; and contexts whose types are convertible.
-use Rattle.std.specs.Prelude.{◌≡◌, ℕ, ◌+◌, ◌-◌, ◌<◌, Bool, true, false, ltb, cond, List, [], ◌∷◌, ◌++◌, length, map, slice_get, Some, get_or, refl, zero, suc}
+use Rattle.std.specs.Prelude.{◌≡◌, ℕ, ◌+◌, ◌-◌, ◌<◌, Bool, true, false, ltb, cond, List, [], ◌∷◌, ◌++◌, length, map, slice_get, Some, refl, zero, suc}
 use Rattle.std.proofs.Common.{ap, sym, ◌∙◌, subst as transport, arith}
 use Rattle.std.proofs.lemmas.Grind.{common_steps}
 use Rattle.core_rules.specs.Term.{Term, Terms, Var, Sort, Pi, Lam, App, Def, Fam, Con, Proj, Meta, End, And}
-use Rattle.core_rules.specs.Substitution.{over, over_all, shift, shift_var, value_at, env_var, under}
-use Rattle.core_rules.specs.Signature.{Signature, Entry, Context, numbers}
+use Rattle.core_rules.specs.Substitution.{over, over_all, shift, value_at, env_var, under}
+use Rattle.core_rules.specs.Signature.{Signature, Entry, Context}
 use Rattle.core_rules.specs.Conversion as C
 use Rattle.core_rules.specs.Conversion.{Conv}
 use Rattle.core_rules.specs.Typing as T

@@ -5,7 +5,7 @@ use Rattle.std.proofs.Common.{arith}
 use mathlib.Core.List.{reverse_aux}
 use Rattle.core_rules.specs.Term.{Term, Terms, App, Fam, Proj, End, And, to_list, AllMetasIn, HasNoMeta}
 use Rattle.core_rules.specs.Signature.{Signature, Context, Telescope, onto, Tree, CoBranches, ConBranches, FamDecl, ConDecl, Decl, Postulate, Family, Open, Function, without_cons, fams}
-use Rattle.core_rules.specs.Mapped.{AllEntries, AllTree, AllCoBranches, AllConBranches, AllCon, AllFamily, AllClause, AllDecl}
+use Rattle.core_rules.specs.Mapped.{AllEntries, AllTree, AllCoBranches, AllConBranches, AllCon, AllFamily, AllDecl}
 use Rattle.core_rules.specs.Elimination.{Elim, Arg, Field, elims, args, pi_over, vars_from, con_type}
 use Rattle.core_rules.specs.Typing as T
 use Rattle.core_rules.specs.Typing.{Typing, Fits, WellFormed}
