@@ -3,3 +3,8 @@ pub mod Scoped
 pub mod Regular
 pub mod Addition
 pub mod Vector
+pub mod Keeping
+pub mod Append
+pub mod Middle
+pub mod Swap
+pub mod Needed

@@ -24,3 +24,4 @@ pub mod TreeLaws
 pub mod VectorHead
 pub mod ScopeLaws
 pub mod NameLaws
+pub mod TreeExamples

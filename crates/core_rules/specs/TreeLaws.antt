@@ -12,7 +12,6 @@ use Rattle.core_rules.specs.Bounded.{Yes, ConvOf}
 use Rattle.core_rules.specs.BoundedLaws.{IsFull, IsRegular, HasRegularTrees, no_solutions, shown}
 use Rattle.core_rules.specs.TypedTree.{TypedTree}
 use Rattle.core_rules.specs.Derivable.{Derivable}
-use Rattle.core_rules.specs.Addition.{addition}
 
 -- the tree of each function is typed where the declarations before the function are known, and the function without clauses and tree
 abbrev pub HasTypedTrees : Signature Term → Type 0
@@ -37,7 +36,3 @@ TypedYesConverts = (g : Signature Term) (s f : Solutions) (fuel depth : ℕ) (t 
 
 abbrev pub DerivableHeadFormConverts : Type 0
 DerivableHeadFormConverts = (g : Signature Term) (t : Term) (es : List Elim) (w : Answer) (n : ℕ) → Derivable g → Heads g no_solutions t es w n → Conv g (elims t es) (shown w)
-
--- with plus, by its case tree
-abbrev pub AdditionDerivable : Type 0
-AdditionDerivable = Derivable addition

@@ -8,6 +8,7 @@ pub mod examples;
 pub mod laws;
 pub mod name_laws;
 pub mod scope_laws;
+pub mod tree_examples;
 pub mod tree_laws;
 
 /// How an argument is given: written out, or left to be found.

@@ -1,8 +1,7 @@
 //! Laws of typed trees. Each is the contract of a function that does nothing.
 //! The statements stand in `specs/TreeLaws.antt`, under the same names.
 
-ghost use Rattle.core_rules.specs.VectorHead.{FirstTyped};
-ghost use Rattle.core_rules.specs.TreeLaws.{TypedTreeInScope, TypedTreeRegular, TypedTreesRegular, TypedHeadFormConverts, TypedYesConverts, DerivableHeadFormConverts, AdditionDerivable};
+ghost use Rattle.core_rules.specs.TreeLaws.{TypedTreeInScope, TypedTreeRegular, TypedTreesRegular, TypedHeadFormConverts, TypedYesConverts, DerivableHeadFormConverts};
 
 /// A typed tree is in scope.
 pub fn typed_tree_in_scope()
@@ -34,15 +33,4 @@ pub fn typed_yes_converts()
 /// In a derivable signature a term is convertible to the head form that it comes to.
 pub fn derivable_head_form_converts()
     ensures { DerivableHeadFormConverts }
-{}
-
-/// The natural numbers with addition by its case tree are derivable.
-pub fn addition_derivable()
-    ensures { AdditionDerivable }
-{}
-
-/// The tree that gives the first item of a vector which has one is typed: one constructor's index equation is solved, the
-/// other's refuted.
-pub fn first_typed()
-    ensures { FirstTyped }
 {}
