@@ -9,3 +9,4 @@ pub mod Heads
 pub mod Trees
 pub mod Scope
 pub mod Names
+pub mod Apart

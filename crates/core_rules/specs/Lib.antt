@@ -25,3 +25,4 @@ pub mod VectorHead
 pub mod ScopeLaws
 pub mod NameLaws
 pub mod TreeExamples
+pub mod Separation

@@ -8,6 +8,7 @@ pub mod examples;
 pub mod laws;
 pub mod name_laws;
 pub mod scope_laws;
+pub mod separation;
 pub mod tree_examples;
 pub mod tree_laws;
 
