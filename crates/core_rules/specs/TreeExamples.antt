@@ -1,8 +1,8 @@
 -- Small functions with their case trees, written out by hand, of which `tree_examples` says what the rules say.
-use Rattle.std.specs.Prelude.{true, false, ℕ, List, [], ◌∷◌, Some}
+use Rattle.std.specs.Prelude.{true, false, ℕ, [], ◌∷◌, Some}
 use Rattle.core_rules.specs.declared.Flag.TheVariants.{Explicit, Implicit}
 use Rattle.core_rules.specs.Term.{Term, Terms, Var, Sort, Pi, App, Def, Fam, Con, Proj, End, And}
-use Rattle.core_rules.specs.Signature.{Entry, Branch, Tree, Leaf, Intro, Cosplit, Split, RecordSplit, NoField, OnField, NoCon, Refuted, Goes, ConDecl, FamDecl, Family, Open, Function, Signature}
+use Rattle.core_rules.specs.Signature.{Branch, Tree, Leaf, Intro, Cosplit, Split, RecordSplit, NoField, OnField, NoCon, Goes, ConDecl, FamDecl, Family, Open, Function, Signature}
 use Rattle.core_rules.specs.Elimination.{Arg}
 use Rattle.core_rules.specs.Run.{Run}
 use Rattle.core_rules.specs.Conversion.{Conv}

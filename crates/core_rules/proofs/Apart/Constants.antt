@@ -1,16 +1,15 @@
 -- Sorts of different levels and different constructors are not convertible in a signature of postulates and data types.
 use Rattle.std.specs.Prelude.{◌≡◌, ℕ, true, false, List, [], ◌∷◌, Some, None, refl, zero, suc}
-use Rattle.std.proofs.Common.{sym, ◌∙◌, subst as transport, arith}
+use Rattle.std.proofs.Common.{sym, subst as transport, arith}
 use Rattle.core_rules.specs.declared.Flag.{Flag}
 use Rattle.core_rules.specs.declared.Flag.TheVariants.{Explicit}
 use Rattle.core_rules.specs.Term.{Term, Terms, Sort, App, Con, End}
 use Rattle.core_rules.specs.Signature.{Signature, Entry, Telescope, Family, FamDecl, fam_decl}
-use Rattle.core_rules.specs.Elimination.{Elim, Arg, Field, elims, args}
-use Rattle.core_rules.specs.Conversion.{Conv, IsEtaCon}
+use Rattle.core_rules.specs.Elimination.{elims, args}
+use Rattle.core_rules.specs.Conversion.{Conv}
 use Rattle.core_rules.specs.Examples.{nat}
-use Rattle.core_rules.specs.Addition.{zero_term, suc_term}
 use Rattle.core_rules.specs.Separation.{IsInert, SetIsNotItsType, ZeroIsNoSuccessor}
-use Rattle.core_rules.proofs.Apart.Reach.{Target, a_sort, a_constructor, IsAt, Reach, here, unwind, reach-conv}
+use Rattle.core_rules.proofs.Apart.Reach.{Target, a_sort, a_constructor, Reach, here, unwind, reach-conv}
 
 sort_reached : (m n : ℕ) (vs : List Term) (k : ℕ) → Reach (a_sort m) (Sort n) vs k → m ≡ n
 sort_reached m n vs k (here e) = e

@@ -1,11 +1,11 @@
 -- Sorts, families and constructors are told apart by the head to which a term comes at arguments, flags left out. A relation between terms,
 -- by a number of steps, says that one comes to a head wherever the other does at related arguments. Each rule of conversion keeps it both ways.
-use Rattle.std.specs.Prelude.{◌≡◌, ℕ, ◌⊎◌, ◌+◌, ◌<◌, ◌≤◌, List, [], ◌∷◌, ◌++◌, Some, None, refl, zero, suc}
+use Rattle.std.specs.Prelude.{◌≡◌, ℕ, ◌⊎◌, ◌<◌, ◌≤◌, List, [], ◌∷◌, ◌++◌, Some, None, refl, zero, suc}
 use Rattle.std.proofs.Common.{ap, sym, ◌∙◌, subst as transport, arith, ⊎_elim}
 use Rattle.core_rules.specs.declared.Flag.{Flag}
-use Rattle.core_rules.specs.Term.{Term, Terms, Var, Sort, Pi, Lam, App, Def, Fam, Con, Proj, Meta, End, And}
+use Rattle.core_rules.specs.Term.{Term, Var, Sort, Pi, Lam, App, Def, Fam, Con, Proj, Meta}
 use Rattle.core_rules.specs.Substitution.{over, shift, subst}
-use Rattle.core_rules.specs.Signature.{Signature, tree_of, field_place}
+use Rattle.core_rules.specs.Signature.{Signature}
 use Rattle.core_rules.specs.Conversion as C
 use Rattle.core_rules.specs.Conversion.{Conv, IsEtaCon}
 use Rattle.core_rules.specs.Separation.{IsInert}
@@ -264,8 +264,7 @@ module _ (p : Target) where
     conv-under (C.back h) = let x = conv-under h in (x.1, x.0)
     conv-under (C.then {t = t} {u = u} {v = v} h l) =
         let x = conv-under h in
-        let y = conv-under l in
-        (
+        let y = conv-under l in (
           λ k s q r. chained k (sub s t) (sub q u) (sub q v) (x.0 k s q r) (λ i. y.0 i q q (λ j. itself i (q j))),
           λ k s q r. chained k (sub s v) (sub q u) (sub q t) (y.1 k s q r) (λ i. x.1 i q q (λ j. itself i (q j))),
         )

@@ -1,6 +1,6 @@
 -- A term for each variable: what is put in for all variables at once, and under one binder for its own.
-use Rattle.std.specs.Prelude.{◌≡◌, ℕ, ◌⊎◌, ◌+◌, ◌-◌, ◌<◌, ◌≤◌, Bool, true, false, ltb, eqb, cond, refl, zero, suc}
-use Rattle.std.proofs.Common.{ap, sym, ◌∙◌, arith, zero-add, ⊎_elim}
+use Rattle.std.specs.Prelude.{◌≡◌, ℕ, ◌⊎◌, ◌+◌, ◌-◌, ◌<◌, ◌≤◌, true, false, ltb, eqb, cond, refl, zero, suc}
+use Rattle.std.proofs.Common.{ap, sym, ◌∙◌, arith, ⊎_elim}
 use Rattle.std.proofs.lemmas.Grind.{common_steps}
 use Rattle.core_rules.specs.declared.Flag.{Flag}
 use Rattle.core_rules.specs.Term.{Term, Var, App}

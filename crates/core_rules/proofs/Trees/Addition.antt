@@ -79,14 +79,14 @@ module _ (between : Signature Term) (is : def_type (Family nat ∷ (between ++ O
 
 pub plus_no_meta : AllDecl HasNoMeta (Function 3 plus_type [] plus_tree)
 plus_no_meta = (
-      (tt, (tt, tt)),
-      tt,
-      (
-        record { context = (tt, tt); values = (tt, tt) },
-        tt,
-        (record { context = (tt, (tt, tt)); values = (tt, (tt, tt)) }, (tt, ((tt, tt), tt)), tt),
-      ),
-    )
+  (tt, (tt, tt)),
+  tt,
+  (
+    record { context = (tt, tt); values = (tt, tt) },
+    tt,
+    (record { context = (tt, (tt, tt)); values = (tt, (tt, tt)) }, (tt, ((tt, tt), tt)), tt),
+  ),
+)
 
 pub derivation : Derivable addition
 derivation =

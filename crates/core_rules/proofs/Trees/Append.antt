@@ -1,9 +1,9 @@
 -- Addition, the first item of a vector, and append: derivable with their trees, and what they unfold to.
-use Rattle.std.specs.Prelude.{◌≡◌, ℕ, true, List, [], ◌∷◌, ◌++◌, slice_get, Some, refl, zero, suc}
+use Rattle.std.specs.Prelude.{◌≡◌, ℕ, true, [], ◌∷◌, refl}
 use Rattle.std.proofs.Common.{sym, subst as transport, arith}
 use Rattle.std.proofs.lemmas.Bool.{eqb-true}
 use Rattle.core_rules.specs.declared.Flag.TheVariants.{Explicit, Implicit}
-use Rattle.core_rules.specs.Term.{Term, Terms, Var, Sort, Pi, App, Def, Fam, Con, End, And, occurs}
+use Rattle.core_rules.specs.Term.{Term, Var, Sort, Pi, App, Def, Fam, Con, End, And, occurs}
 use Rattle.core_rules.specs.Substitution.{value_at}
 use Rattle.core_rules.specs.Signature.{Signature, Context, Family, Open, Function, onto}
 use Rattle.core_rules.specs.Elimination.{Arg}
@@ -18,8 +18,8 @@ use Rattle.core_rules.specs.TypedTree as Y
 use Rattle.core_rules.specs.TypedTree.{IsAt, TypedTree}
 use Rattle.core_rules.specs.Derivable as D
 use Rattle.core_rules.specs.Derivable.{Derivable, Good}
-use Rattle.core_rules.specs.Examples.{nat, vec, zero_con, suc_con, nil_con, cons_con}
-use Rattle.core_rules.specs.Addition.{addition, nat_type, zero_term, suc_term, plus_term, plus_tree}
+use Rattle.core_rules.specs.Examples.{nat, vec, zero_con, suc_con, cons_con}
+use Rattle.core_rules.specs.Addition.{nat_type, zero_term, suc_term, plus_term, plus_tree}
 use Rattle.core_rules.specs.VectorHead.{first_type, first_tree}
 use Rattle.core_rules.specs.TreeExamples.{PlusUnfolds, cons_term, nil_term, vector_of, firsts, FirstUnfolds, append_type, append_term, append_nil, append_cons, append_tree, appending, AppendUnfolds}
 use Rattle.core_rules.proofs.Signature.Growth.{derivable-extended}

@@ -1,6 +1,6 @@
 -- What the worked derivations of trees share.
 use Rattle.std.specs.Prelude.{◌≡◌, ℕ, ◌+◌, List, [], ◌∷◌, slice_get, Some, zero, suc}
-use Rattle.std.proofs.Common.{ap, sym, ◌∙◌, subst as transport, arith}
+use Rattle.std.proofs.Common.{ap, ◌∙◌, subst as transport, arith}
 use Rattle.core_rules.specs.Term.{Term, Var}
 use Rattle.core_rules.specs.Substitution.{shift}
 use Rattle.core_rules.specs.Signature.{Signature}

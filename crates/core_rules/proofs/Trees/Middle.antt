@@ -1,9 +1,9 @@
 -- A split in the middle of a context, whose branches solve a variable and keep the others: typed, and what it unfolds to.
-use Rattle.std.specs.Prelude.{◌≡◌, ℕ, true, List, [], ◌∷◌, Some, refl, zero, suc}
+use Rattle.std.specs.Prelude.{◌≡◌, ℕ, true, [], ◌∷◌, refl}
 use Rattle.std.proofs.Common.{sym, subst as transport, arith}
 use Rattle.std.proofs.lemmas.Bool.{eqb-true}
 use Rattle.core_rules.specs.declared.Flag.TheVariants.{Explicit, Implicit}
-use Rattle.core_rules.specs.Term.{Term, Var, Sort, Pi, App, Def, Fam, Con, End, occurs}
+use Rattle.core_rules.specs.Term.{Term, Var, Sort, Pi, App, Con, End, occurs}
 use Rattle.core_rules.specs.Substitution.{value_at}
 use Rattle.core_rules.specs.Signature.{Signature, Context, Family, Open, onto}
 use Rattle.core_rules.specs.Elimination.{Arg}
@@ -15,7 +15,7 @@ use Rattle.core_rules.specs.Unification as U
 use Rattle.core_rules.specs.Unification.{eq, Solution, Depends, Solves, Realises, whole_types}
 use Rattle.core_rules.specs.TypedTree as Y
 use Rattle.core_rules.specs.TypedTree.{IsAt}
-use Rattle.core_rules.specs.Examples.{nat, suc_con}
+use Rattle.core_rules.specs.Examples.{nat}
 use Rattle.core_rules.specs.Addition.{nat_type, suc_term}
 use Rattle.core_rules.specs.TreeExamples.{fin_at, fzero_con, fsuc_con, fin, fzero_term, fsuc_term, again_type, again_zero, again_suc, AgainTyped, AgainUnfolds}
 use Rattle.core_rules.proofs.Trees.Keeping.{keeps, unshifted}

@@ -1,19 +1,17 @@
 -- Two signatures whose trees are not regular: head forms unfold calls at which the trees give nothing.
-use Rattle.std.specs.Prelude.{◌≡◌, ℕ, Bool, true, false, eqb, cond, List, [], ◌∷◌, ◌++◌, reverse, Option, Some, None, option_and_then, unwrap_or, refl, zero, suc}
-use Rattle.std.specs.Option.{option_map_or}
-use Rattle.std.proofs.Common.{ap, sym, ◌∙◌, subst as transport, arith}
-use Rattle.std.proofs.lemmas.Bool.{eqb-true}
+use Rattle.std.specs.Prelude.{◌≡◌, ℕ, Bool, true, false, eqb, cond, [], ◌∷◌, ◌++◌, reverse, Option, Some, None, option_and_then, unwrap_or, refl, zero, suc}
+use Rattle.std.proofs.Common.{ap, sym, ◌∙◌, subst as transport}
 use Rattle.core_rules.specs.declared.Flag.TheVariants.{Explicit}
-use Rattle.core_rules.specs.Term.{Term, App, Def, Con, Proj, End}
+use Rattle.core_rules.specs.Term.{Term, Def, Con, Proj, End}
 use Rattle.core_rules.specs.Substitution.{value_at}
 use Rattle.core_rules.specs.Signature.{Branch, Tree, Goes, NoCon, con_branch, fields_of}
-use Rattle.core_rules.specs.Elimination.{Arg, Field, projections}
+use Rattle.core_rules.specs.Elimination.{Arg, projections}
 use Rattle.core_rules.specs.Run as R
 use Rattle.core_rules.specs.Run.{Run, ConApp, is_record_con, full_con, parts, spread, kept}
 use Rattle.core_rules.specs.Heads as H
 use Rattle.core_rules.specs.Heads.{Form, Heads}
 use Rattle.core_rules.specs.BoundedLaws.{no_solutions}
-use Rattle.core_rules.specs.Addition.{zero_term, suc_term}
+use Rattle.core_rules.specs.Addition.{zero_term}
 use Rattle.core_rules.proofs.Heads.OneAnswer.{one_some}
 use Rattle.core_rules.specs.TreeExamples.{boxes, unboxed_tree, EtaIsNeeded, number_kept, kept_twice, second_opened, both_opened, twice, twice_tree, KeepingApartIsNeeded}
 

@@ -1,8 +1,8 @@
 -- A record split and a cosplit: derivable, and what they unfold to.
-use Rattle.std.specs.Prelude.{◌≡◌, ℕ, List, [], ◌∷◌, Some, refl, zero, suc}
+use Rattle.std.specs.Prelude.{ℕ, [], ◌∷◌, refl}
 use Rattle.core_rules.specs.declared.Flag.TheVariants.{Explicit}
-use Rattle.core_rules.specs.Term.{Term, Terms, Var, Sort, Pi, App, Def, Fam, Con, Proj, End, And}
-use Rattle.core_rules.specs.Signature.{Signature, Context, Family, Open, Function, Tree}
+use Rattle.core_rules.specs.Term.{Term, Var, Sort, Pi, App, Def, Con, Proj, End, And}
+use Rattle.core_rules.specs.Signature.{Signature, Context, Family, Open, Function}
 use Rattle.core_rules.specs.Elimination.{Arg, Field}
 use Rattle.core_rules.specs.Run as R
 use Rattle.core_rules.specs.Conversion as C
@@ -12,7 +12,7 @@ use Rattle.core_rules.specs.TypedTree as Y
 use Rattle.core_rules.specs.TypedTree.{IsAt, TypedTree}
 use Rattle.core_rules.specs.Derivable as D
 use Rattle.core_rules.specs.Derivable.{Derivable, Good}
-use Rattle.core_rules.specs.Examples.{nat, vec, pair, pair_con, pair_fields, pair_of, pair_type, families}
+use Rattle.core_rules.specs.Examples.{nat, vec, pair, pair_con, pair_of, pair_type, families}
 use Rattle.core_rules.specs.TreeExamples.{swap_type, swap_tree, turn_tree, swaps, SwapUnfolds, TurnUnfolds}
 use Rattle.core_rules.proofs.Signature.Growth.{derivable-extended}
 use Rattle.core_rules.proofs.Typing.NoMeta.{good-no_meta}
