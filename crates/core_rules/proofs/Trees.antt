@@ -1,6 +1,7 @@
 -- Laws of typed trees.
 pub mod Scoped
 pub mod Regular
+pub mod Sound
 pub mod Addition
 pub mod Vector
 pub mod Keeping
