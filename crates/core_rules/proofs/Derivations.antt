@@ -113,7 +113,7 @@ vec_cons = (
   ),
 )
 
-good_vec : Good (Family nat ∷ []) (Family vec)
+pub good_vec : Good (Family nat ∷ []) (Family vec)
 good_vec = D.family (record {
   shape = data_shape vec (record { fields = refl; eta = refl; coinductive = refl }) refl;
   context = T.extended (T.extended T.empty (record { level = 1; holds = T.sort })) (record { level = 0; holds = T.fam refl });
@@ -140,7 +140,7 @@ pair_end = T.app {v = Sort 0} (T.app {v = Pi Explicit 16 (Sort 0) (Sort 0)} (T.f
 pair_within : IsWithin pair_known 0 pair_params pair_fields
 pair_within = D.more {n = 0} (T.var refl) (omega arith) (D.more {n = 0} (T.var refl) (omega arith) D.none)
 
-good_pair : Good (Family nat ∷ Family vec ∷ []) (Family pair)
+pub good_pair : Good (Family nat ∷ Family vec ∷ []) (Family pair)
 good_pair = D.family (record {
   shape = record {
     of_data = λ h. absurd (true_false h);

@@ -1,5 +1,11 @@
 -- Laws of typed trees.
 pub mod Scoped
 pub mod Regular
+pub mod Sound
 pub mod Addition
 pub mod Vector
+pub mod Keeping
+pub mod Append
+pub mod Middle
+pub mod Swap
+pub mod Needed

@@ -22,3 +22,7 @@ pub mod BoundedLaws
 pub mod Addition
 pub mod TreeLaws
 pub mod VectorHead
+pub mod ScopeLaws
+pub mod NameLaws
+pub mod TreeExamples
+pub mod Separation

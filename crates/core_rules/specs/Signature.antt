@@ -79,8 +79,9 @@ pub record CoreClause (A : Type 0) : Type 0 where
   pub left : CheckedLeft A
   pub right : Option A
 
--- What is below a split on a constructor: its context; `values`, for each variable of the context that the constructor's arguments
--- extend, its value in this one; `keep`, for each variable of this context, the variable of that one that it is. Both stand innermost first
+-- What is below a split on a constructor. The constructor's context is the split one with the constructor's arguments in the place of the
+-- variable that is split. `context` is the branch's own; `values` has for each variable of the constructor's context its value in this one;
+-- `keep` has for each variable of this one the variable of the constructor's context that it is. Both lists stand innermost first
 pub record Branch (A : Type 0) : Type 0 where
   pub context : Telescope A
   pub values : List A

@@ -1,8 +1,7 @@
 //! Laws of typed trees. Each is the contract of a function that does nothing.
 //! The statements stand in `specs/TreeLaws.antt`, under the same names.
 
-ghost use Rattle.core_rules.specs.VectorHead.{FirstTyped};
-ghost use Rattle.core_rules.specs.TreeLaws.{TypedTreeInScope, TypedTreeRegular, TypedTreesRegular, TypedHeadFormConverts, TypedYesConverts, DerivableHeadFormConverts, AdditionDerivable};
+ghost use Rattle.core_rules.specs.TreeLaws.{TypedTreeInScope, TypedTreeRegular, TypedTreesRegular, TypedHeadFormConverts, TypedYesConverts, DerivableIsSound, OpenedIsSound, SoundIsRegular, SoundHeadFormConverts, SoundYesConverts, DerivableHeadFormConverts, DerivableYesConverts};
 
 /// A typed tree is in scope.
 pub fn typed_tree_in_scope()
@@ -31,18 +30,37 @@ pub fn typed_yes_converts()
     ensures { TypedYesConverts }
 {}
 
+/// A derivable signature is sound: in scope, with typed trees, without metavariables.
+pub fn derivable_is_sound()
+    ensures { DerivableIsSound }
+{}
+
+/// So is one that goes on with a function that is known without its clauses and tree.
+pub fn opened_is_sound()
+    ensures { OpenedIsSound }
+{}
+
+/// A sound signature has regular trees.
+pub fn sound_is_regular()
+    ensures { SoundIsRegular }
+{}
+
+/// In a sound signature a term is convertible to the head form that it comes to, with solved metavariables replaced.
+pub fn sound_head_form_converts()
+    ensures { SoundHeadFormConverts }
+{}
+
+/// In a sound signature a yes implies that the two terms are convertible, with solved metavariables replaced.
+pub fn sound_yes_converts()
+    ensures { SoundYesConverts }
+{}
+
 /// In a derivable signature a term is convertible to the head form that it comes to.
 pub fn derivable_head_form_converts()
     ensures { DerivableHeadFormConverts }
 {}
 
-/// The natural numbers with addition by its case tree are derivable.
-pub fn addition_derivable()
-    ensures { AdditionDerivable }
-{}
-
-/// The tree that gives the first item of a vector which has one is typed: one constructor's index equation is solved, the
-/// other's refuted.
-pub fn first_typed()
-    ensures { FirstTyped }
+/// In a derivable signature a yes implies that the two terms are convertible.
+pub fn derivable_yes_converts()
+    ensures { DerivableYesConverts }
 {}

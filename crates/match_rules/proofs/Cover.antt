@@ -13,3 +13,4 @@ pub mod Standing
 pub mod First
 pub mod Addition
 pub mod Call
+pub mod OneFirst

@@ -5,7 +5,8 @@ use Rattle.core_rules.specs.Signature.{Signature, Tree, CoreClause, Function, de
 use Rattle.core_rules.specs.InScope.{SignatureInScope, ClausesInScope, any_meta}
 use Rattle.core_rules.specs.TreeLaws.{HasTypedTrees}
 use Rattle.core_rules.specs.Derivable.{Derivable}
-use Rattle.match_rules.specs.Matching.{clause_of, ClauseHolds}
+use Rattle.core_rules.specs.Elimination.{Elim}
+use Rattle.match_rules.specs.Matching.{Shapes, Clause, Bound, Front, Apart, FirstMatch, clause_of, ClauseHolds}
 use Rattle.match_rules.specs.Covering.{Covers}
 use Rattle.core_rules.specs.Conversion.{Conv}
 use Rattle.core_rules.specs.Addition.{suc_term, plus_term}
@@ -28,3 +29,13 @@ AdditionClausesHold = Derivable addition_by_clauses × ClausesInScope addition_b
 -- what the second clause says of a call that fits
 abbrev pub PlusOfSuccessor : Type 0
 PlusOfSuccessor = (t u : Term) → Conv addition_by_clauses (plus_term (suc_term t) u) (suc_term (plus_term t u))
+
+-- matching has one answer: a match with what it binds and what remains, a clash, or neither
+abbrev pub OneMatch : Type 0
+OneMatch = (g : Signature Term) (ps : Shapes) (es rest more : List Elim) (σ τ : Bound) → Front g ps es σ rest → Front g ps es τ more → (σ ≡ τ) × (rest ≡ more)
+
+abbrev pub NoMatchAndClash : Type 0
+NoMatchAndClash = (g : Signature Term) (ps : Shapes) (es rest : List Elim) (σ : Bound) → Front g ps es σ rest → Apart g ps es → ⊥
+
+abbrev pub OneFirstMatch : Type 0
+OneFirstMatch = (g : Signature Term) (qs : List Clause) (i j : ℕ) (es rest more : List Elim) (σ τ : Bound) → FirstMatch g qs i es σ rest → FirstMatch g qs j es τ more → (i ≡ j) × (σ ≡ τ) × (rest ≡ more)

@@ -1,7 +1,7 @@
 //! First match. Each law is the contract of a function that does nothing.
 //! The statements stand in `specs/Laws.antt`, under the same names.
 
-ghost use Rattle.match_rules.specs.Laws.{CoveredClausesHold, DerivableClausesHold, AdditionClausesHold, PlusOfSuccessor};
+ghost use Rattle.match_rules.specs.Laws.{CoveredClausesHold, DerivableClausesHold, AdditionClausesHold, PlusOfSuccessor, OneMatch, NoMatchAndClash, OneFirstMatch};
 
 /// In a signature in scope whose trees are typed, each clause of a function whose tree follows its clauses holds.
 pub fn covered_clauses_hold()
@@ -21,4 +21,19 @@ pub fn addition_clauses_hold()
 /// The second clause of addition, at a call that fits.
 pub fn plus_of_successor()
     ensures { PlusOfSuccessor }
+{}
+
+/// Patterns match eliminations in one way.
+pub fn one_match()
+    ensures { OneMatch }
+{}
+
+/// Patterns do not both match eliminations and clash with them.
+pub fn no_match_and_clash()
+    ensures { NoMatchAndClash }
+{}
+
+/// One clause at most is the first that matches.
+pub fn one_first_match()
+    ensures { OneFirstMatch }
 {}

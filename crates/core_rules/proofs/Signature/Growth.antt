@@ -10,12 +10,12 @@ use Rattle.core_rules.specs.Derivable as D
 use Rattle.core_rules.specs.InScope.{HasShape}
 use Rattle.core_rules.proofs.Signature.Places.{fam_stands}
 
-get_before : (g h : Signature Term) (i : ℕ) → i < length g → slice_get (g ++ h) i ≡ slice_get g i
+pub get_before : (g h : Signature Term) (i : ℕ) → i < length g → slice_get (g ++ h) i ≡ slice_get g i
 get_before [] h i b = absurd (omega arith)
 get_before (x ∷ g) h zero b = refl
 get_before (x ∷ g) h (suc i) b = get_before g h i (omega arith)
 
-get_last : (g : Signature Term) (d e : Decl Term) (i : ℕ) → length g ≤ i → slice_get (g ++ d ∷ []) i ≡ Some e → (d ≡ e) × (i ≡ length g)
+pub get_last : (g : Signature Term) (d e : Decl Term) (i : ℕ) → length g ≤ i → slice_get (g ++ d ∷ []) i ≡ Some e → (d ≡ e) × (i ≡ length g)
 get_last [] d e zero b h = (cc h, refl)
 get_last [] d e (suc i) b h = absurd cc
 get_last (x ∷ g) d e zero b h = absurd (omega arith)
