@@ -4,3 +4,4 @@ pub mod Known
 pub mod Declared
 pub mod HeadForms
 pub mod Unified
+pub mod Named

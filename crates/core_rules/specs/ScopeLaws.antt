@@ -6,7 +6,7 @@ use Rattle.core_rules.specs.Substitution.{shift, subst, under, replace, instanti
 use Rattle.core_rules.specs.Signature.{Entry, Context, Signature, FamDecl, def_type, fam_decl, field_counts}
 use Rattle.core_rules.specs.Elimination.{Elim, Arg, Field, fam_type, con_type}
 use Rattle.core_rules.specs.Typing.{IsCon, IsField, WellFormed, field_env}
-use Rattle.core_rules.specs.InScope.{InScope, SignatureInScope, SolutionsInScope, any_meta, in_store, solved_at}
+use Rattle.core_rules.specs.InScope.{con_params, InScope, SignatureInScope, SolutionsInScope, any_meta, in_store, solved_at}
 use Rattle.core_rules.specs.Heads.{Solutions, Answer, Form, Blocked, Heads}
 use Rattle.core_rules.specs.Unification.{Equation, Solution, State, St, Step, exchange, delete, solve_left, solve_right, inject, begin}
 
@@ -92,3 +92,10 @@ BeginInScope = ForMetas (λ M. (g : Signature Term) (c : Context Term) (es : Lis
 
 abbrev pub StepInScope : Type 0
 StepInScope = ForMetas (λ M. (g : Signature Term) (n : ℕ) (s s' : State) (step : Step g s s') → SidesInScope g M n step → StateInScope g M n s → StateInScope g M n s')
+
+-- what an id in scope names: a constructor at n parameters, and a field
+abbrev pub ConstructorNamed : Type 0
+ConstructorNamed = (g : Signature Term) (k n : ℕ) → con_params g k ≡ Some n → (is : IsCon g k) × (length is.decl.params ≡ n)
+
+abbrev pub FieldNamed : Type 0
+FieldNamed = (g : Signature Term) (f : ℕ) → f < sum (field_counts g) → IsField g f
