@@ -5,3 +5,4 @@ pub mod Declared
 pub mod HeadForms
 pub mod Unified
 pub mod Named
+pub mod Opened

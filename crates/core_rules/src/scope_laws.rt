@@ -1,7 +1,7 @@
 //! What keeps scope. Each law is the contract of a function that does nothing.
 //! The statements stand in `specs/ScopeLaws.antt`, under the same names.
 
-ghost use Rattle.core_rules.specs.ScopeLaws.{ShiftInScope, SubstitutionInScope, EnvironmentInScope, ReplacedInScope, InstantiatedInScope, VariableTypeInScope, DeclaredTypeInScope, FamilyTypeInScope, ConstructorTypeInScope, FieldTypeInScope, WellFormedInScope, HeadFormInScope, BeginInScope, StepInScope, ConstructorNamed, FieldNamed};
+ghost use Rattle.core_rules.specs.ScopeLaws.{ShiftInScope, SubstitutionInScope, EnvironmentInScope, ReplacedInScope, InstantiatedInScope, VariableTypeInScope, DeclaredTypeInScope, FamilyTypeInScope, ConstructorTypeInScope, FieldTypeInScope, WellFormedInScope, HeadFormInScope, BeginInScope, StepInScope, ConstructorNamed, FieldNamed, ConstructorContextInScope, WithConstructorInScope};
 
 /// A shifted term is in scope among as many variables more as it is shifted by.
 pub fn shift_in_scope()
@@ -81,4 +81,14 @@ pub fn constructor_named()
 /// The id of a field in scope names one.
 pub fn field_named()
     ensures { FieldNamed }
+{}
+
+/// At a split in scope the context of a constructor and its index equations there are in scope.
+pub fn constructor_context_in_scope()
+    ensures { ConstructorContextInScope }
+{}
+
+/// So is a term of the split with the constructor for its variable.
+pub fn with_constructor_in_scope()
+    ensures { WithConstructorInScope }
 {}
