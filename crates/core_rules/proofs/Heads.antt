@@ -14,6 +14,7 @@ pub mod InFull
 pub mod Again
 pub mod NoSolutions
 pub mod ExactlyOne
+pub mod ItsHead
 pub mod Untouched
 pub mod Gather
 pub mod Fit

@@ -3,3 +3,4 @@ pub mod Alike
 pub mod Typed
 pub mod HeadForms
 pub mod Verdicts
+pub mod Joined

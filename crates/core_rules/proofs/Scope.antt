@@ -4,3 +4,5 @@ pub mod Known
 pub mod Declared
 pub mod HeadForms
 pub mod Unified
+pub mod Named
+pub mod Opened

@@ -1,5 +1,5 @@
 -- What the laws of bounded head forms and bounded conversion speak of, and their statements.
-use Rattle.std.specs.Prelude.{◌≡◌, ◌≢◌, ◌↔◌, ℕ, ◌+◌, ◌<◌, ◌≤◌, slice_get, true, cond, List, [], ◌∷◌, length, map, Option, Some, None, suc}
+use Rattle.std.specs.Prelude.{◌≡◌, ◌≢◌, ◌↔◌, ℕ, ◌⊎◌, ◌+◌, ◌<◌, ◌≤◌, slice_get, true, cond, List, [], ◌∷◌, length, map, Option, Some, None, suc}
 use Rattle.std.specs.List.{AllByRecursion}
 use Rattle.core_rules.specs.Term.{Term, Terms, Var, Sort, Pi, Lam, App, Def, Fam, Con, Proj, Meta, IsSameTerm, AllMetas, HasNoMeta}
 use Rattle.core_rules.specs.Substitution.{subst, under, value_at, put_solution, replace, instantiate}
@@ -282,3 +282,27 @@ ExactlyOneVerdict = (g : Signature Term) (s : Solutions) (fuel depth : ℕ) (t u
 -- of the arguments of two constructors
 abbrev pub OnePairing : Type 0
 OnePairing = (es ds : List Elim) (ps qs : List Equation) → Pairs es ds ps → Pairs es ds qs → ps ≡ qs
+
+-- it can be told whether two terms are the same with acyclic solutions put in
+abbrev pub SameOrNot : Type 0
+SameOrNot = (s : Solutions) (t u : Term) → IsAcyclic s → AreSame s t u ⊎ (AreSame s t u → ⊥)
+
+-- the head of a form is no application, projection or metavariable
+abbrev pub IsHead : Term → Type 0
+IsHead (App b t u) = ⊥
+IsHead (Proj f t) = ⊥
+IsHead (Meta m ts) = ⊥
+IsHead _ = Unit {0}
+
+-- the head of a blocked answer is the metavariable that it waits for, or a function
+abbrev pub IsBlockedHead : ℕ → Term → Type 0
+IsBlockedHead m (Meta n ts) = m ≡ n
+IsBlockedHead m (Def f) = Unit {0}
+IsBlockedHead m _ = ⊥
+
+abbrev pub HasItsHead : Answer → Type 0
+HasItsHead (Form h es) = IsHead h
+HasItsHead (Blocked m h es) = IsBlockedHead m h
+
+abbrev pub HeadOfAnswer : Type 0
+HeadOfAnswer = (g : Signature Term) (s : Solutions) (t : Term) (es : List Elim) (w : Answer) (n : ℕ) → Heads g s t es w n → HasItsHead w

@@ -8,6 +8,7 @@ use Rattle.core_rules.specs.Typing.{Typing}
 use Rattle.core_rules.specs.InScope.{InScope}
 use Rattle.core_rules.specs.Heads.{Solutions, Answer, Form, Blocked, Heads}
 use Rattle.core_rules.specs.Bounded.{Verdict, Yes, No, OutOfFuel, OutOfDepth, WaitsFor, ConvOf}
+use Rattle.core_rules.specs.Unification.{Solution, Joins}
 use Rattle.core_rules.specs.ScopeLaws.{ForMetas}
 
 -- item by item the same terms
@@ -67,3 +68,6 @@ HeadFormOfSameTerms = (g : Signature Term) (s : Solutions) (t u : Term) (es ds :
 
 abbrev pub VerdictOfSameTerms : Type 0
 VerdictOfSameTerms = (g : Signature Term) (s : Solutions) (fuel depth : ℕ) (t u t' u' : Term) (q : Verdict) → IsSameTerm t t' → IsSameTerm u u' → ConvOf g s fuel depth t u q → (r : Verdict) × ConvOf g s fuel depth t' u' r × IsSameVerdict q r
+
+abbrev pub JoinsOfSameTerms : Type 0
+JoinsOfSameTerms = (c c' : Context Term) (ss : List Solution) (r q : List Term) (keep : List ℕ) → AreSameTerms r q → Joins c ss c' r keep → Joins c ss c' q keep

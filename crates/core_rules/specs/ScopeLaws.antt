@@ -1,12 +1,13 @@
 -- What keeps scope: the statements of the laws.
-use Rattle.std.specs.Prelude.{◌≡◌, ℕ, ◌+◌, ◌<◌, ◌≤◌, Option, List, [], ◌∷◌, length, sum, slice_get, Some}
+use Rattle.std.specs.Prelude.{◌≡◌, ℕ, ◌+◌, ◌-◌, ◌<◌, ◌≤◌, Option, List, [], ◌∷◌, length, sum, slice_get, Some}
 use Rattle.std.specs.List.{AllByRecursion}
 use Rattle.core_rules.specs.Term.{Term, Terms, env_of}
 use Rattle.core_rules.specs.Substitution.{shift, subst, under, replace, instantiate}
-use Rattle.core_rules.specs.Signature.{Entry, Context, Signature, FamDecl, def_type, fam_decl, field_counts}
+use Rattle.core_rules.specs.Signature.{Entry, Context, Signature, ConDecl, FamDecl, def_type, fam_decl, field_counts}
 use Rattle.core_rules.specs.Elimination.{Elim, Arg, Field, fam_type, con_type}
 use Rattle.core_rules.specs.Typing.{IsCon, IsField, WellFormed, field_env}
-use Rattle.core_rules.specs.InScope.{InScope, SignatureInScope, SolutionsInScope, any_meta, in_store, solved_at}
+use Rattle.core_rules.specs.TypedTree.{Splitting, con_context, with_con, index_equations}
+use Rattle.core_rules.specs.InScope.{con_params, InScope, ConInScope, SignatureInScope, SolutionsInScope, any_meta, in_store, solved_at}
 use Rattle.core_rules.specs.Heads.{Solutions, Answer, Form, Blocked, Heads}
 use Rattle.core_rules.specs.Unification.{Equation, Solution, State, St, Step, exchange, delete, solve_left, solve_right, inject, begin}
 
@@ -92,3 +93,31 @@ BeginInScope = ForMetas (λ M. (g : Signature Term) (c : Context Term) (es : Lis
 
 abbrev pub StepInScope : Type 0
 StepInScope = ForMetas (λ M. (g : Signature Term) (n : ℕ) (s s' : State) (step : Step g s s') → SidesInScope g M n step → StateInScope g M n s → StateInScope g M n s')
+
+-- what an id in scope names: a constructor at n parameters, and a field
+abbrev pub ConstructorNamed : Type 0
+ConstructorNamed = (g : Signature Term) (k n : ℕ) → con_params g k ≡ Some n → (is : IsCon g k) × (length is.decl.params ≡ n)
+
+abbrev pub FieldNamed : Type 0
+FieldNamed = (g : Signature Term) (f : ℕ) → f < sum (field_counts g) → IsField g f
+
+module _ (g : Signature Term) (M : ℕ → ℕ → Type 0) where
+  -- a split in scope: its parameters and indices stand in the entries before its variable
+  pub record SplittingInScope (s : Splitting) : Type 0 where
+    pub context : ContextInScope g M s.context
+    pub var : s.var < length s.context
+    pub params : AllByRecursion (InScope g M (length s.context - (s.var + 1))) s.params
+    pub indices : AllByRecursion (InScope g M (length s.context - (s.var + 1))) s.indices
+
+  -- what the split makes for a constructor: its context, and its index equations there
+  pub record ConstructorSplitInScope (s : Splitting) (k : ℕ) (con : ConDecl Term) : Type 0 where
+    pub context : ContextInScope g M (con_context s k con.args)
+    pub equations : AllByRecursion (EquationInScope g M (length (con_context s k con.args))) (index_equations s con)
+
+abbrev pub ConstructorContextInScope : Type 0
+ConstructorContextInScope = ForMetas (λ M. (g : Signature Term) (s : Splitting) (k : ℕ) (con : ConDecl Term) → con_params g k ≡ Some (length s.params) → ConInScope g M (length s.params) con → SplittingInScope g M s → ConstructorSplitInScope g M s k con)
+
+-- a term of the split in a constructor's context
+abbrev pub WithConstructorInScope : Type 0
+WithConstructorInScope = ForMetas (λ M. (g : Signature Term) (s : Splitting) (k : ℕ) (con : ConDecl Term) (t : Term) → con_params g k ≡ Some (length s.params) → SplittingInScope g M s → InScope g M (length s.context) t
+    → InScope g M (length (con_context s k con.args)) (with_con s k con.args t))

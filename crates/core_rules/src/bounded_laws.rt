@@ -1,7 +1,7 @@
 //! Laws of bounded head forms and bounded conversion. Each is the contract of a function that does nothing.
 //! The statements stand in `specs/BoundedLaws.antt`, under the same names.
 
-ghost use Rattle.core_rules.specs.BoundedLaws.{OneHeadForm, OneBoundedHeadForm, MoreFuel, NextOfTerm, NextOfTree, NextOfChoice, StepsAreNeeded, OutMakesMore, BoundedHeadFormStands, BlockedByUnsolved, FullSolutions, ReplacedHeadForm, ReplacedHeadFormBack, ReplacedBoundedHeadForm, ReplacedVerdict, NothingToReplace, ReplacedSignature, HeadFormConverts, SameByFullSolutions, OneVerdict, VerdictStands, MoreFuelForVerdict, MoreDepth, YesConverts, OneFull, InstantiatedByRank, InstantiatedByNumber, NoSolvedLeft, NothingToReplaceInSignature, HeadFormAgain, ReplacedConversion, ExactlyOneBoundedHeadForm, ExactlyOneVerdict, OnePairing};
+ghost use Rattle.core_rules.specs.BoundedLaws.{OneHeadForm, OneBoundedHeadForm, MoreFuel, NextOfTerm, NextOfTree, NextOfChoice, StepsAreNeeded, OutMakesMore, BoundedHeadFormStands, BlockedByUnsolved, FullSolutions, ReplacedHeadForm, ReplacedHeadFormBack, ReplacedBoundedHeadForm, ReplacedVerdict, NothingToReplace, ReplacedSignature, HeadFormConverts, SameByFullSolutions, OneVerdict, VerdictStands, MoreFuelForVerdict, MoreDepth, YesConverts, OneFull, InstantiatedByRank, InstantiatedByNumber, NoSolvedLeft, NothingToReplaceInSignature, HeadFormAgain, ReplacedConversion, ExactlyOneBoundedHeadForm, ExactlyOneVerdict, OnePairing, SameOrNot, HeadOfAnswer};
 
 /// A term under eliminations comes to one answer, in one number of steps.
 pub fn one_head_form()
@@ -176,4 +176,15 @@ pub fn exactly_one_verdict()
 /// The arguments of two constructors are paired in one way at most.
 pub fn one_pairing()
     ensures { OnePairing }
+{}
+
+/// It can be told whether two terms are the same with acyclic solutions put in.
+pub fn same_or_not()
+    ensures { SameOrNot }
+{}
+
+/// The head of a form is no application, projection or metavariable; that of a blocked answer is the metavariable that it
+/// waits for, or a function.
+pub fn head_of_answer()
+    ensures { HeadOfAnswer }
 {}

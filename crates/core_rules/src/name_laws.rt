@@ -1,7 +1,7 @@
 //! Names on binders count for nothing. Each law is the contract of a function that does nothing.
 //! The statements stand in `specs/NameLaws.antt`, under the same names.
 
-ghost use Rattle.core_rules.specs.NameLaws.{ShiftOfSameTerms, SubstitutionOfSameTerms, EnvironmentOfSameTerms, ReplacedOfSameTerms, ScopeOfSameTerms, TypingOfSameTerms, HeadFormOfSameTerms, VerdictOfSameTerms};
+ghost use Rattle.core_rules.specs.NameLaws.{ShiftOfSameTerms, SubstitutionOfSameTerms, EnvironmentOfSameTerms, ReplacedOfSameTerms, ScopeOfSameTerms, TypingOfSameTerms, HeadFormOfSameTerms, VerdictOfSameTerms, JoinsOfSameTerms};
 
 /// Shifts of the same term are the same term.
 pub fn shift_of_same_terms()
@@ -41,4 +41,9 @@ pub fn head_form_of_same_terms()
 /// The same two terms have the same verdict.
 pub fn verdict_of_same_terms()
     ensures { VerdictOfSameTerms }
+{}
+
+/// The same terms join the same solutions.
+pub fn joins_of_same_terms()
+    ensures { JoinsOfSameTerms }
 {}

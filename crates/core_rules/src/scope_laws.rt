@@ -1,7 +1,7 @@
 //! What keeps scope. Each law is the contract of a function that does nothing.
 //! The statements stand in `specs/ScopeLaws.antt`, under the same names.
 
-ghost use Rattle.core_rules.specs.ScopeLaws.{ShiftInScope, SubstitutionInScope, EnvironmentInScope, ReplacedInScope, InstantiatedInScope, VariableTypeInScope, DeclaredTypeInScope, FamilyTypeInScope, ConstructorTypeInScope, FieldTypeInScope, WellFormedInScope, HeadFormInScope, BeginInScope, StepInScope};
+ghost use Rattle.core_rules.specs.ScopeLaws.{ShiftInScope, SubstitutionInScope, EnvironmentInScope, ReplacedInScope, InstantiatedInScope, VariableTypeInScope, DeclaredTypeInScope, FamilyTypeInScope, ConstructorTypeInScope, FieldTypeInScope, WellFormedInScope, HeadFormInScope, BeginInScope, StepInScope, ConstructorNamed, FieldNamed, ConstructorContextInScope, WithConstructorInScope};
 
 /// A shifted term is in scope among as many variables more as it is shifted by.
 pub fn shift_in_scope()
@@ -71,4 +71,24 @@ pub fn begin_in_scope()
 /// A step of unification keeps scope, where what it exchanges is in scope.
 pub fn step_in_scope()
     ensures { StepInScope }
+{}
+
+/// The id of a constructor in scope names one, and its family has as many parameters as the constructor stands at.
+pub fn constructor_named()
+    ensures { ConstructorNamed }
+{}
+
+/// The id of a field in scope names one.
+pub fn field_named()
+    ensures { FieldNamed }
+{}
+
+/// At a split in scope the context of a constructor and its index equations there are in scope.
+pub fn constructor_context_in_scope()
+    ensures { ConstructorContextInScope }
+{}
+
+/// So is a term of the split with the constructor for its variable.
+pub fn with_constructor_in_scope()
+    ensures { WithConstructorInScope }
 {}

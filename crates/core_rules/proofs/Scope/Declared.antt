@@ -50,7 +50,7 @@ module _ (g : Signature Term) (M : ℕ → ℕ → Type 0) where
   args-in_scope n (e ∷ es) [] h = tt
   args-in_scope n (e ∷ es) (t ∷ ts) h = (h.0, args-in_scope n es ts h.1)
 
-  vars-in_scope : (k m n : ℕ) → k + m ≤ n → Each g M n (vars_from k m)
+  pub vars-in_scope : (k m n : ℕ) → k + m ≤ n → Each g M n (vars_from k m)
   vars-in_scope k zero n h = tt
   vars-in_scope k (suc m) n h = (omega (arith, h), vars-in_scope k m n (omega (arith, h)))
 
