@@ -1,8 +1,6 @@
 -- The signature that is made of declarations is derivable.
-use Rattle.std.proofs.Common.{◌≡◌, ℕ, ◌+◌, max, Bool, true, false, ◌&&◌, List, [], ◌∷◌, ◌++◌, Some, None, Ok, refl, sym, slice_get, append_assoc}
+use Rattle.std.proofs.Common.{◌≡◌, ℕ, ◌+◌, max, Bool, true, false, ◌&&◌, List, [], ◌∷◌, ◌++◌, Some, None, Ok, refl, sym, ap, slice_get, append_assoc}
 use Rattle.std.proofs.lemmas.List.{append-nil}
-use Rattle.std.specs.Prelude.{Result}
-use Rattle.elab_cli.specs.declared.error.LoadError.{LoadError}
 use Rattle.std.proofs.Common.{subst as along}
 use Rattle.std.specs.declared.option.Option.{Option}
 use Rattle.std.specs.Prelude.{option_map, option_and_then, is_some, if◌then◌else◌}
@@ -25,11 +23,11 @@ use Rattle.scope_check.specs.declared.resolved.Resolved.TheVariants as r
 use Rattle.scope_check.specs.Known.{Known}
 use Rattle.source_tree.specs.declared.decl.Decl.{Decl}
 use Rattle.source_tree.specs.declared.decl.File.{File}
-use Rattle.elab_cli.specs.Translated.{term_of}
-use Rattle.elab_cli.specs.Load.{Declares, DeclaresFile}
-use Rattle.elab_cli.specs.Equal.{same_flag, same_term}
-use Rattle.elab_cli.specs.Accept.{sort_level, at_argument, applied, sort_of_pi, type_of, level_of, postulates, with_type, with_line, with_lines, with_decl}
-use Rattle.elab_cli.proofs.Equal.{same_flag-is, same_term-is}
+use Rattle.file_load.specs.Translated.{term_of}
+use Rattle.file_load.specs.Load.{Declares, DeclaresFile, Outcome}
+use Rattle.file_load.specs.Equal.{same_flag, same_term}
+use Rattle.file_load.specs.Accept.{sort_level, at_argument, applied, sort_of_pi, type_of, level_of, postulates, with_type, with_line, with_lines, with_decl}
+use Rattle.file_load.proofs.Equal.{same_flag-is, same_term-is}
 
 -- ---- types
 
@@ -214,11 +212,17 @@ decl_derivable g h (r.Open p d b) der e = absurd cc
 decl_derivable g h (r.«Data» p x bs a ss) der e = absurd cc
 decl_derivable g h (r.Record p x bs a xs) der e = absurd cc
 
-declares_derivable : {k : Known} {g : Signature Term} {ds : List Decl} {o : Result (Signature Term) LoadError} → Declares k g ds o → Derivable g → (h : Signature Term) → o ≡ Ok h → Derivable h
-declares_derivable Declares.none der h e = let same : _ ≡ h = cc in along Derivable same der
-declares_derivable (Declares.unresolved is) der h e = absurd cc
-declares_derivable (Declares.refused is none) der h e = absurd cc
-declares_derivable (Declares.declared {g = g} {h = f} {r = d} is some rest) der h e = declares_derivable rest (decl_derivable g f d der some) h e
+abbrev declared_to : Known × Signature Term → Outcome
+declared_to p = Ok p
 
-pub signature_derivable : (file : File) (g : Signature Term) → DeclaresFile file (Ok g) → Derivable g
-signature_derivable file g h = declares_derivable h derivable-empty g refl
+signature_is : (p q : Known × Signature Term) → declared_to p ≡ declared_to q → p.1 ≡ q.1
+signature_is p q e = let same : p ≡ q = cc in ap (λ (r : Known × Signature Term). r.1) same
+
+declares_derivable : {k : Known} {g : Signature Term} {ds : List Decl} {o : Outcome} → Declares k g ds o → Derivable g → (m : Known) (h : Signature Term) → o ≡ Ok (m, h) → Derivable h
+declares_derivable (Declares.none {k = k} {g = g}) der m h e = along Derivable (signature_is (k, g) (m, h) e) der
+declares_derivable (Declares.unresolved is) der m h e = absurd cc
+declares_derivable (Declares.refused is none) der m h e = absurd cc
+declares_derivable (Declares.declared {g = g} {h = f} {r = d} is some rest) der m h e = declares_derivable rest (decl_derivable g f d der some) m h e
+
+pub signature_derivable : (file : File) (k : Known) (g : Signature Term) → DeclaresFile file (Ok (k, g)) → Derivable g
+signature_derivable file k g h = declares_derivable h derivable-empty k g refl

@@ -4,7 +4,7 @@ use Rattle.std.proofs.lemmas.Bool.{and_parts, and_from}
 use Rattle.core_rules.specs.declared.Flag.{Flag}
 use Rattle.core_rules.specs.declared.Flag.TheVariants.{Explicit, Implicit}
 use Rattle.core_rules.specs.Term.{Term, Terms, Var, Sort, Pi, Lam, App, Def, Fam, Con, Proj, Meta, End, And, nameless, nameless_all}
-use Rattle.elab_cli.specs.Equal.{same_flag, same_term, same_terms}
+use Rattle.file_load.specs.Equal.{same_flag, same_term, same_terms}
 
 pub same_flag-is : (b c : Flag) → same_flag b c ≡ true → b ≡ c
 same_flag-is Explicit Explicit h = refl

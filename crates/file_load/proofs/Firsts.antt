@@ -1,7 +1,7 @@
 -- The first place of a list, one item further.
 use Rattle.std.proofs.Common.{◌≡◌, ◌<◌, ◌≤◌, ℕ, zero, suc, ◌+◌, List, [], ◌∷◌, ◌++◌, map, drop, length, get_or, None, refl, sym, ap, ◌∙◌, arith}
 use Rattle.std.specs.Prelude.{Option}
-use Rattle.elab_cli.specs.Unbuilt.{or_else, first_of}
+use Rattle.file_load.specs.Unbuilt.{or_else, first_of}
 
 -- what is left from an item on begins with it
 pub drop_next : {A : Type 0} (xs : List A) (i : ℕ) (x : A) → i < length xs → x ≡ get_or xs i x → drop i xs ≡ x ∷ drop (i + 1) xs

@@ -17,13 +17,13 @@ use Rattle.core_terms.specs.Pool.{Pool, Extends, StandsFor, tree}
 use Rattle.core_terms.specs.Growth.{Extends-length, Extends-tree}
 use Rattle.core_terms.specs.Signature.{entry_decl, state_decl, Stands, signature_in}
 use Rattle.core_terms.proofs.SignatureGrowth.{signature_in-extends, Stands-extends, entry_type_in, def_type-map}
-use Rattle.elab_cli.specs.Accept.{applied, at_argument, level_of, sort_level, sort_of_pi, type_of}
-use Rattle.elab_cli.specs.Equal.{same_flag, same_term}
-use Rattle.elab_cli.specs.Inferred.{IsReady, IsSpine, StandsForSome, context_in, typed_in, unwound}
-use Rattle.elab_cli.specs.Same.{IsOf}
-use Rattle.elab_cli.specs.declared.infer.Argument.{Argument}
-use Rattle.elab_cli.specs.declared.infer.Spine.{Spine}
-use Rattle.elab_cli.proofs.Equal.{same_term-is, same_term-from}
+use Rattle.file_load.specs.Accept.{applied, at_argument, level_of, sort_level, sort_of_pi, type_of}
+use Rattle.file_load.specs.Equal.{same_flag, same_term}
+use Rattle.file_load.specs.Inferred.{IsReady, IsSpine, StandsForSome, context_in, typed_in, unwound}
+use Rattle.file_load.specs.Same.{IsOf}
+use Rattle.file_load.specs.declared.infer.Argument.{Argument}
+use Rattle.file_load.specs.declared.infer.Spine.{Spine}
+use Rattle.file_load.proofs.Equal.{same_term-is, same_term-from}
 
 -- ---- what stays as the pool grows
 

@@ -11,13 +11,13 @@ use Rattle.core_terms.specs.Signature.{Stands, signature_in}
 use Rattle.core_terms.proofs.SignatureGrowth.{signature_in-extends, Stands-extends}
 use Rattle.scope_check.specs.declared.resolved.ResolvedName.{ResolvedName}
 use Rattle.scope_check.specs.declared.resolved.ResolvedSignature.{ResolvedSignature}
-use Rattle.elab_cli.specs.declared.state.Core.{Core}
-use Rattle.elab_cli.specs.Accept.{level_of, postulates, with_type, with_line, with_lines}
-use Rattle.elab_cli.specs.Translated.{term_of}
-use Rattle.elab_cli.specs.Same.{IsOf}
-use Rattle.elab_cli.specs.Judged.{Agrees, IsDeclared, IsPostulate, IsNew, declared, postulates_of}
-use Rattle.elab_cli.proofs.Firsts.{drop_next, drop_end}
-use Rattle.elab_cli.proofs.Sameness.{IsOf-new, IsOf-Extends}
+use Rattle.file_load.specs.declared.state.Core.{Core}
+use Rattle.file_load.specs.Accept.{level_of, postulates, with_type, with_line, with_lines}
+use Rattle.file_load.specs.Translated.{term_of}
+use Rattle.file_load.specs.Same.{IsOf}
+use Rattle.file_load.specs.Judged.{Agrees, IsDeclared, IsPostulate, IsNew, declared, postulates_of}
+use Rattle.file_load.proofs.Firsts.{drop_next, drop_end}
+use Rattle.file_load.proofs.Sameness.{IsOf-new, IsOf-Extends}
 
 -- ---- postulates of one type
 

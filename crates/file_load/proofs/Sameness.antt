@@ -16,11 +16,11 @@ use Rattle.core_terms.specs.Pool.{Pool, Below, Extends, node_tree, tree}
 use Rattle.core_terms.specs.Growth.{first-length}
 use Rattle.core_terms.specs.declared.node.Node.{Node}
 use Rattle.core_terms.specs.declared.node.Node.TheVariants as N
-use Rattle.elab_cli.specs.declared.same.Shape.{Shape}
-use Rattle.elab_cli.specs.declared.same.Shape.TheVariants as S
-use Rattle.elab_cli.specs.contracts.same.ShapePartialEq.TheImpl.{eq-value}
-use Rattle.elab_cli.specs.Same.{IsOf, is_implicit, flag_of, shape_of, shape_term, HasParts, terms_after, class_terms, AreApart, Grows, terms_of, AreClasses}
-use Rattle.elab_cli.proofs.Firsts.{map-push}
+use Rattle.file_load.specs.declared.same.Shape.{Shape}
+use Rattle.file_load.specs.declared.same.Shape.TheVariants as S
+use Rattle.file_load.specs.contracts.same.ShapePartialEq.TheImpl.{eq-value}
+use Rattle.file_load.specs.Same.{IsOf, is_implicit, flag_of, shape_of, shape_term, HasParts, terms_after, class_terms, AreApart, Grows, terms_of, AreClasses}
+use Rattle.file_load.proofs.Firsts.{map-push}
 
 -- ---- by the kinds of nodes
 

@@ -1,6 +1,6 @@
 -- A type without a form that is not built has a core term, where the scope knows postulates alone.
 use Rattle.std.proofs.Common.{◌≡◌, ◌∙◌, ℕ, Bool, true, false, List, [], ◌∷◌, ◌++◌, map, Some, None, Ok, Err, refl, sym, ap, subst}
-use Rattle.std.specs.Prelude.{Option, Result, is_some, IsSome, if◌then◌else◌, option_and_then}
+use Rattle.std.specs.Prelude.{Option, is_some, IsSome, if◌then◌else◌, option_and_then}
 use Rattle.std.specs.List.{AllByRecursion}
 use Rattle.std.specs.Str.{bytes_eq}
 use Rattle.core_rules.specs.Term.{Term, Var, Sort, Def}
@@ -42,17 +42,17 @@ use Rattle.scope_check.specs.Known.{Known, nothing_known, global_in, place_of, w
 use Rattle.scope_check.specs.Exprs.{Locals, named_by, by_global, whole, label, under, binders_from, head_of, binder_of, expr}
 use Rattle.scope_check.specs.Layers as layer
 use Rattle.scope_check.proofs.Folds.{head_at, arg_at, binder_at}
-use Rattle.elab_cli.specs.declared.error.LoadError.{LoadError}
-use Rattle.elab_cli.specs.declared.error.LoadKind.TheVariants as kind
-use Rattle.elab_cli.specs.Accept.{level_of, postulates, with_type, with_line, with_lines, with_decl}
-use Rattle.elab_cli.specs.Load.{Declares, DeclaresFile, beginning, error_at, named_error, scope_kind}
-use Rattle.elab_cli.specs.Translated as translated
-use Rattle.elab_cli.specs.Translated.{term_of, arg_term, over, value_term, expr_in, apps_of, app_of, pi_of, group_of, bound_by}
-use Rattle.elab_cli.specs.Unbuilt as unbuilt
-use Rattle.elab_cli.specs.Unbuilt.{or_else, first_of, in_expr, in_arg, in_binder}
-use Rattle.elab_cli.specs.Refused.{IsRefused, IsRefusedIn, IsRefusedDecl, RefusesType}
-use Rattle.elab_cli.proofs.Inferring.{all-push}
-use Rattle.elab_cli.proofs.Translating.{term_at, term_app, term_pi, term_forall, term_arrow, over_out}
+use Rattle.session_text.specs.declared.error.LoadError.{LoadError}
+use Rattle.session_text.specs.declared.error.LoadKind.TheVariants as kind
+use Rattle.file_load.specs.Accept.{level_of, postulates, with_type, with_line, with_lines, with_decl}
+use Rattle.file_load.specs.Load.{Declares, DeclaresFile, Outcome, beginning, error_at, named_error, scope_kind}
+use Rattle.file_load.specs.Translated as translated
+use Rattle.file_load.specs.Translated.{term_of, arg_term, over, value_term, expr_in, apps_of, app_of, pi_of, group_of, bound_by}
+use Rattle.file_load.specs.Unbuilt as unbuilt
+use Rattle.file_load.specs.Unbuilt.{or_else, first_of, in_expr, in_arg, in_binder}
+use Rattle.file_load.specs.Refused.{IsRefused, IsRefusedIn, IsRefusedDecl, RefusesType}
+use Rattle.file_load.proofs.Inferring.{all-push}
+use Rattle.file_load.proofs.Translating.{term_at, term_app, term_pi, term_forall, term_arrow, over_out}
 
 -- ---- scopes
 
@@ -420,12 +420,12 @@ decl_refused g (rd.«Data» p x bs a ss) has e = absurd has
 decl_refused g (rd.Record p x bs a xs) has e = absurd has
 
 -- a file of postulates is refused for the type of a line alone
-refused_for : (k : Known) (g : core.Signature Term) (ds : List Decl) (result : Result (core.Signature Term) LoadError) → Declares k g ds result → KnowsDefs k → first_of (map unbuilt.in_decl ds) ≡ None
+refused_for : (k : Known) (g : core.Signature Term) (ds : List Decl) (result : Outcome) → Declares k g ds result → KnowsDefs k → first_of (map unbuilt.in_decl ds) ≡ None
     → result ≡ Err (error_at beginning kind.Refused) → RefusesType k g ds
 refused_for k g ds result (Declares.none) a n e = absurd cc
 refused_for k g ds result (Declares.unresolved {p = p} {j = j} {x = x} u) a n e =
     let same : named_error p (scope_kind j) x ≡ error_at beginning kind.Refused = cc in
-    let names : Some x ≡ None = ap (λ (z : LoadError). z.name) same in
+    let names : x ∷ [] ≡ [] = ap (λ (z : LoadError). z.lines) same in
     absurd cc
 refused_for k g ds result (Declares.refused {m = m} {d = d} {r = x} u w) a n e = RefusesType.here u (decl_refused g x (decl_has k d (x, m) a (first_none _ _ n) (resolves_is k d (Ok (x, m)) u)).0 w)
 refused_for k g ds result (Declares.declared {m = m} {h = h} {d = d} {ds = rest} {r = x} u w more) a n e =

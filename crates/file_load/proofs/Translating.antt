@@ -16,8 +16,8 @@ use Rattle.source_tree.specs.declared.place.Place.{Place}
 use Rattle.scope_check.specs.declared.resolved.ResolvedBinder.{ResolvedBinder, fold_out-ResolvedBinder, out-ResolvedBinder, map-ResolvedBinder}
 use Rattle.scope_check.specs.declared.resolved.ResolvedValue.{ResolvedValue}
 use Rattle.scope_check.specs.declared.resolved.ResolvedArg.TheOpen.{ResolvedExpr-F, ResolvedBinder-F}
-use Rattle.elab_cli.specs.Translated.{apps_of, pi_of, grouped, group_of, BinderMeaning, bound_by, expr_step, arg_step, binder_step, value_step, term_of, arg_term, over, value_term, expr_in}
-use Rattle.elab_cli.proofs.Firsts.{drop_next}
+use Rattle.file_load.specs.Translated.{apps_of, pi_of, grouped, group_of, BinderMeaning, bound_by, expr_step, arg_step, binder_step, value_step, term_of, arg_term, over, value_term, expr_in}
+use Rattle.file_load.proofs.Firsts.{drop_next}
 
 -- ---- groups
 

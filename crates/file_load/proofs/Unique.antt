@@ -25,13 +25,11 @@ use Rattle.scope_check.specs.Known.{Known}
 use Rattle.scope_check.proofs.DeclCases.{one_answer as resolved_once}
 use Rattle.core_rules.specs.Term.{Term}
 use Rattle.core_rules.specs.Signature.{Signature}
-use Rattle.elab_cli.specs.declared.error.LoadError.{LoadError}
-use Rattle.elab_cli.specs.declared.error.LoadKind.TheVariants as kind
-use Rattle.elab_cli.specs.declared.verdict.Verdict.{Verdict}
-use Rattle.elab_cli.specs.declared.verdict.Verdict.TheVariants.{Error, Complete}
-use Rattle.elab_cli.specs.Unbuilt.{in_file}
-use Rattle.elab_cli.specs.Accept.{with_decl}
-use Rattle.elab_cli.specs.Load.{Declares, DeclaresFile, HasVerdict, IsComplete, IsInError, IsLexed, IsParsed, Reads, error_at, lex_kind, parse_kind, place_of_byte}
+use Rattle.session_text.specs.declared.error.LoadError.{LoadError}
+use Rattle.session_text.specs.declared.error.LoadKind.TheVariants as kind
+use Rattle.file_load.specs.Unbuilt.{in_file}
+use Rattle.file_load.specs.Accept.{with_decl}
+use Rattle.file_load.specs.Load.{Declares, DeclaresFile, HasVerdict, IsInError, IsLexed, IsLoaded, IsParsed, Made, Outcome, Reads, Verdict, complete_report, error_at, lex_kind, parse_kind, place_of_byte}
 
 -- ---- the stages
 
@@ -164,7 +162,7 @@ not_declared g {h = h} same n s = let both : None ≡ Some h = sym n ∙ ap (wit
 signature_once : (g : Signature Term) {h i : Signature Term} {r q : Resolved} → r ≡ q → with_decl g r ≡ Some h → with_decl g q ≡ Some i → h ≡ i
 signature_once g {h = h} {i = i} same s t = let both : Some h ≡ Some i = sym s ∙ ap (with_decl g) same ∙ t in cc
 
-declares_once : {k : Known} {g : Signature Term} {ds : List Decl} {a b : Result (Signature Term) LoadError} → Declares k g ds a → Declares k g ds b → a ≡ b
+declares_once : {k : Known} {g : Signature Term} {ds : List Decl} {a b : Outcome} → Declares k g ds a → Declares k g ds b → a ≡ b
 declares_once Declares.none Declares.none = refl
 declares_once (Declares.unresolved {k = k} {d = d} e) (Declares.unresolved f) = let one = resolved_once k d _ _ e f in cc
 declares_once (Declares.unresolved {k = k} {d = d} e) (Declares.refused f r) = let one = resolved_once k d _ _ e f in absurd cc
@@ -184,7 +182,7 @@ module _ (text : List ℕ) where
   file_once : {f g : File} → Reads text (Ok f) → Reads text (Ok g) → f ≡ g
   file_once r s = let one = reads_once r s in cc
 
-  loads_once : {f g : File} {a b : Result (Signature Term) LoadError} → Reads text (Ok f) → DeclaresFile f a → Reads text (Ok g) → DeclaresFile g b → a ≡ b
+  loads_once : {f g : File} {a b : Outcome} → Reads text (Ok f) → DeclaresFile f a → Reads text (Ok g) → DeclaresFile g b → a ≡ b
   loads_once {b = b} r d s c = declares_once d (subst (λ (h : File). DeclaresFile h b) (sym (file_once r s)) c)
 
   errors_once : {e f : LoadError} → IsInError text e → IsInError text f → e ≡ f
@@ -193,18 +191,31 @@ module _ (text : List ℕ) where
   errors_once (IsInError.undeclared r d) (IsInError.unread s) = let one = reads_once r s in absurd cc
   errors_once (IsInError.undeclared r d) (IsInError.undeclared s c) = let one = loads_once r d s c in cc
 
-  not_both : {e : LoadError} {n : ℕ} → IsInError text e → IsComplete text n → ⊥
+  not_both : {e : LoadError} {m : Made} → IsInError text e → IsLoaded text m → ⊥
   not_both (IsInError.unread r) b = let one = reads_once r b.reads in absurd cc
-  not_both (IsInError.undeclared r d) b = let one = loads_once r d b.reads b.loads in absurd cc
+  not_both (IsInError.undeclared r d) b = let one = loads_once r d b.reads b.made.loads in absurd cc
 
-  signatures_once : {n m : ℕ} → IsComplete text n → IsComplete text m → n ≡ m
-  signatures_once a b =
-      let one = loads_once a.reads a.loads b.reads b.loads in
-      let same : a.signature ≡ b.signature = cc in
-      a.declarations ∙ ap length same ∙ sym b.declarations
+  abbrev declared_to : Known × Signature Term → Outcome
+  declared_to p = Ok p
+
+  ends_once : (p q : Known × Signature Term) → declared_to p ≡ declared_to q → p ≡ q
+  ends_once p q e = cc
+
+  made_once : {m n : Made} → IsLoaded text m → IsLoaded text n → m ≡ n
+  made_once {m = m} {n = n} a b =
+      let one = loads_once a.reads a.made.loads b.reads b.made.loads in
+      let ends : (a.made.known, m.signature) ≡ (b.made.known, n.signature) = ends_once (a.made.known, m.signature) (b.made.known, n.signature) one in
+      let known : a.made.known ≡ b.made.known = ap (λ (p : Known × Signature Term). p.0) ends in
+      let signature : m.signature ≡ n.signature = ap (λ (p : Known × Signature Term). p.1) ends in
+      let names : m.names ≡ n.names = a.made.names ∙ ap (λ (k : Known). k.names) known ∙ sym b.made.names in
+      let report : m.report ≡ n.report = a.made.report ∙ ap (λ (g : Signature Term). complete_report (length g)) signature ∙ sym b.made.report in
+      λ i. record { report = report i; names = names i; signature = signature i }
 
 pub one_verdict : (text : List ℕ) (v w : Verdict) → HasVerdict text v → HasVerdict text w → v ≡ w
-one_verdict text (Error e) (Error f) a b = ap Error (errors_once text a b)
-one_verdict text (Error e) (Complete n) a b = absurd (not_both text a b)
-one_verdict text (Complete n) (Error e) a b = absurd (not_both text b a)
-one_verdict text (Complete n) (Complete m) a b = ap Complete (signatures_once text a b)
+one_verdict text (Err e) (Err f) a b = ap Err (errors_once text a b)
+one_verdict text (Err e) (Ok m) a b = absurd (not_both text a b)
+one_verdict text (Ok m) (Err e) a b = absurd (not_both text b a)
+one_verdict text (Ok m) (Ok n) a b = ap Ok (made_once text a b)
+
+pub one_signature : (text : List ℕ) (m n : Made) → IsLoaded text m → IsLoaded text n → m.signature ≡ n.signature
+one_signature text m n a b = ap (λ (x : Made). x.signature) (made_once text a b)

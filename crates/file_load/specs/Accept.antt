@@ -9,8 +9,8 @@ use Rattle.scope_check.specs.declared.resolved.ResolvedName.{ResolvedName}
 use Rattle.scope_check.specs.declared.resolved.ResolvedSignature.{ResolvedSignature}
 use Rattle.scope_check.specs.declared.resolved.Resolved.{Resolved}
 use Rattle.scope_check.specs.declared.resolved.Resolved.TheVariants as r
-use Rattle.elab_cli.specs.Equal.{same_flag, same_term}
-use Rattle.elab_cli.specs.Translated.{term_of}
+use Rattle.file_load.specs.Equal.{same_flag, same_term}
+use Rattle.file_load.specs.Translated.{term_of}
 
 -- ---- types
 

@@ -6,10 +6,10 @@ use Rattle.core_rules.specs.Signature.{Entry, Context, Signature, onto}
 use Rattle.core_rules.specs.Mapped.{AllEntries, telescope_map}
 use Rattle.core_terms.specs.Pool.{Pool, tree}
 use Rattle.core_terms.specs.Signature.{Stands, signature_in}
-use Rattle.elab_cli.specs.Accept.{type_of}
-use Rattle.elab_cli.specs.Same.{IsOf}
-use Rattle.elab_cli.specs.declared.infer.Argument.{Argument}
-use Rattle.elab_cli.specs.declared.infer.Spine.{Spine}
+use Rattle.file_load.specs.Accept.{type_of}
+use Rattle.file_load.specs.Same.{IsOf}
+use Rattle.file_load.specs.declared.infer.Argument.{Argument}
+use Rattle.file_load.specs.declared.infer.Spine.{Spine}
 
 -- the context of these entries, which stand outermost first
 abbrev pub context_in : Pool → List (Entry ℕ) → Context Term

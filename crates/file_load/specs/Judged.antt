@@ -1,5 +1,5 @@
 -- What the private parts that judge declarations say of their state.
-use Rattle.std.specs.Prelude.{◌≡◌, ℕ, Bool, true, false, List, [], ◌∷◌, map, Option, Some, None, Result, Ok, Err}
+use Rattle.std.specs.Prelude.{◌≡◌, ℕ, Bool, true, false, List, [], ◌∷◌, map, Option, Some, None, Ok, Err}
 use Rattle.std.specs.List.{AllByRecursion}
 use Rattle.core_rules.specs.Term.{Term}
 use Rattle.core_rules.specs.Signature.{Signature, Postulate, Family, Open, Function}
@@ -8,10 +8,10 @@ use Rattle.source_tree.specs.declared.decl.Decl.{Decl}
 use Rattle.core_terms.specs.Signature.{Stands, signature_in}
 use Rattle.scope_check.specs.declared.resolved.ResolvedName.{ResolvedName}
 use Rattle.scope_check.specs.Known.{nothing_known}
-use Rattle.elab_cli.specs.declared.state.Core.{Core}
-use Rattle.elab_cli.specs.declared.error.LoadError.{LoadError}
-use Rattle.elab_cli.specs.Load.{Declares}
-use Rattle.elab_cli.specs.Same.{IsOf}
+use Rattle.file_load.specs.declared.state.Core.{Core}
+use Rattle.session_text.specs.declared.error.LoadError.{LoadError}
+use Rattle.file_load.specs.Load.{Declares, Outcome}
+use Rattle.file_load.specs.Same.{IsOf}
 
 -- the signature of trees that was declared so far
 abbrev pub declared : Core → Signature Term
@@ -52,7 +52,7 @@ Judges old new o false = o ≡ None
 -- behind a declaration the load goes on from what is known then, or it ends with the error
 pub record GoesOn (old new : Core) (d : Decl) : Type 0 where
   pub agrees : Agrees new
-  pub goes_on : (ds : List Decl) (result : Result (Signature Term) LoadError) → Declares new.scope (declared new) ds result → Declares old.scope (declared old) (d ∷ ds) result
+  pub goes_on : (ds : List Decl) (result : Outcome) → Declares new.scope (declared new) ds result → Declares old.scope (declared old) (d ∷ ds) result
 
 abbrev pub LoadsDecl : Core → Core → Decl → Option LoadError → Type 0
 LoadsDecl old new d None = GoesOn old new d
@@ -60,5 +60,5 @@ LoadsDecl old new d (Some e) = (ds : List Decl) → Declares old.scope (declared
 
 -- all of the declarations were loaded, or the load ends with the error
 abbrev pub LoadsDecls : Core → Core → List Decl → Option LoadError → Type 0
-LoadsDecls old new ds None = Declares old.scope (declared old) ds (Ok (declared new)) × Agrees new
+LoadsDecls old new ds None = Declares old.scope (declared old) ds (Ok (new.scope, declared new)) × Agrees new
 LoadsDecls old new ds (Some e) = Declares old.scope (declared old) ds (Err e)

@@ -1,5 +1,5 @@
 -- The load of a text: what is said of it.
-use Rattle.std.specs.Prelude.{◌≡◌, ◌≤◌, ◌<◌, ℕ, List, [], ◌∷◌, length, if◌then◌else◌, nat_lt, Some, None, Result, Ok, Err}
+use Rattle.std.specs.Prelude.{◌≡◌, ◌≤◌, ◌<◌, ℕ, true, List, [], ◌∷◌, length, if◌then◌else◌, nat_lt, Some, None, Result, Ok, Err}
 use Rattle.std.specs.Str.{chars, IsUtf8, IsValidUpTo}
 use Rattle.el_outside.specs.declared.Pos.{Pos}
 use Rattle.el_outside.specs.Place.{Place, after, pos, pos_of, start}
@@ -27,21 +27,20 @@ use Rattle.scope_check.specs.Resolves.{Resolves}
 use Rattle.core_rules.specs.Term.{Term}
 use Rattle.core_rules.specs.Signature.{Signature}
 use Rattle.core_rules.specs.Derivable.{Derivable}
-use Rattle.elab_cli.specs.declared.error.LoadError.{LoadError}
-use Rattle.elab_cli.specs.declared.error.LoadKind.{LoadKind}
-use Rattle.elab_cli.specs.declared.error.LoadKind.TheVariants as kind
-use Rattle.elab_cli.specs.declared.verdict.Verdict.{Verdict}
-use Rattle.elab_cli.specs.declared.verdict.Verdict.TheVariants.{Error, Complete}
-use Rattle.elab_cli.specs.Unbuilt.{in_file}
-use Rattle.elab_cli.specs.Accept.{with_decl}
+use Rattle.session_text.specs.declared.error.LoadError.{LoadError}
+use Rattle.session_text.specs.declared.error.LoadKind.{LoadKind}
+use Rattle.session_text.specs.declared.error.LoadKind.TheVariants as kind
+use Rattle.session_text.specs.declared.report.Report.{Report}
+use Rattle.file_load.specs.Unbuilt.{in_file}
+use Rattle.file_load.specs.Accept.{with_decl}
 
 -- ---- errors
 
 abbrev pub error_at : Pos → LoadKind → LoadError
-error_at p k = record { pos = p; kind = k; name = None }
+error_at p k = record { pos = p; kind = k; lines = [] }
 
 abbrev pub named_error : Pos → LoadKind → List ℕ → LoadError
-named_error p k x = record { pos = p; kind = k; name = Some x }
+named_error p k x = record { pos = p; kind = k; lines = x ∷ [] }
 
 abbrev pub lex_kind : LexKind → LoadKind
 lex_kind lexes.BadToken = kind.BadToken
@@ -103,36 +102,58 @@ pub data Reads (text : List ℕ) : Result File LoadError → Type 0 where
 
 -- ---- the declarations, one after another
 
--- Behind k and the signature g: each declaration is resolved, and only then its types are judged in order. The result is the signature
--- of all, or the first error.
-pub data Declares : Known → Signature Term → List Decl → Result (Signature Term) LoadError → Type 0 where
-  none : {k : Known} {g : Signature Term} → Declares k g [] (Ok g)
+-- what is known after declarations and the signature of all, or the first error
+abbrev pub Outcome : Type 0
+Outcome = Result (Known × Signature Term) LoadError
+
+-- After k and the signature g: each declaration is resolved, and only then its types are judged in order.
+pub data Declares : Known → Signature Term → List Decl → Outcome → Type 0 where
+  none : {k : Known} {g : Signature Term} → Declares k g [] (Ok (k, g))
   unresolved : {k : Known} {g : Signature Term} {d : Decl} {ds : List Decl} {p : Pos} {j : ScopeKind} {x : List ℕ}
       → Resolves k d (Err (scope.Bad p j x)) → Declares k g (d ∷ ds) (Err (named_error p (scope_kind j) x))
   refused : {k m : Known} {g : Signature Term} {d : Decl} {ds : List Decl} {r : Resolved}
       → Resolves k d (Ok (r, m)) → with_decl g r ≡ None → Declares k g (d ∷ ds) (Err (error_at beginning kind.Refused))
-  declared : {k m : Known} {g h : Signature Term} {d : Decl} {ds : List Decl} {r : Resolved} {result : Result (Signature Term) LoadError}
+  declared : {k m : Known} {g h : Signature Term} {d : Decl} {ds : List Decl} {r : Resolved} {result : Outcome}
       → Resolves k d (Ok (r, m)) → with_decl g r ≡ Some h → Declares m h ds result → Declares k g (d ∷ ds) result
 
-abbrev pub DeclaresFile : File → Result (Signature Term) LoadError → Type 0
+abbrev pub DeclaresFile : File → Outcome → Type 0
 DeclaresFile file result = Declares nothing_known [] file.decls result
 
 -- ---- the load
+
+-- what is made of a text without an error: its report, the texts of the names by their numbers, and the signature
+pub record Made : Type 0 where
+  pub report : Report
+  pub names : List (List ℕ)
+  pub signature : Signature Term
+
+-- what is said of a text: what is made of it, or its first error
+abbrev pub Verdict : Type 0
+Verdict = Result Made LoadError
+
+-- the report of a text whose declarations, of which there are n, are accepted
+abbrev pub complete_report : ℕ → Report
+complete_report n = record { complete = true; declarations = n; inserted = 0; goals = []; unsolved = []; suspended = []; shadowed = [] }
 
 -- the first error of the text
 pub data IsInError (text : List ℕ) (e : LoadError) : Type 0 where
   unread : Reads text (Err e) → IsInError text e
   undeclared : {file : File} → Reads text (Ok file) → DeclaresFile file (Err e) → IsInError text e
 
--- the text has no error, and its signature, which has so many declarations, is derivable
-pub record IsComplete (text : List ℕ) (n : ℕ) : Type 0 where
+-- m is made of the declarations of a file
+pub record IsMade (file : File) (m : Made) : Type 0 where
+  pub known : Known
+  pub loads : DeclaresFile file (Ok (known, m.signature))
+  pub names : m.names ≡ known.names
+  pub report : m.report ≡ complete_report (length m.signature)
+
+-- the text has no error, m is made of it, and the signature is derivable
+pub record IsLoaded (text : List ℕ) (m : Made) : Type 0 where
   pub file : File
   pub reads : Reads text (Ok file)
-  pub signature : Signature Term
-  pub loads : DeclaresFile file (Ok signature)
-  pub declarations : n ≡ length signature
-  pub derivable : Derivable signature
+  pub made : IsMade file m
+  pub derivable : Derivable m.signature
 
 abbrev pub HasVerdict : List ℕ → Verdict → Type 0
-HasVerdict text (Error e) = IsInError text e
-HasVerdict text (Complete n) = IsComplete text n
+HasVerdict text (Err e) = IsInError text e
+HasVerdict text (Ok m) = IsLoaded text m

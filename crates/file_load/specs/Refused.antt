@@ -8,8 +8,8 @@ use Rattle.scope_check.specs.declared.resolved.Resolved.TheVariants as r
 use Rattle.scope_check.specs.Known.{Known}
 use Rattle.scope_check.specs.Resolves.{Resolves}
 use Rattle.source_tree.specs.declared.decl.Decl.{Decl}
-use Rattle.elab_cli.specs.Accept.{level_of, with_decl, with_line}
-use Rattle.elab_cli.specs.Translated.{term_of}
+use Rattle.file_load.specs.Accept.{level_of, with_decl, with_line}
+use Rattle.file_load.specs.Translated.{term_of}
 
 -- the line has a type that is no type over the signature before it
 pub record IsRefused (g : Signature Term) (s : ResolvedSignature) : Type 0 where

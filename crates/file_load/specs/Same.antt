@@ -7,8 +7,8 @@ use Rattle.core_rules.specs.Term.{Term, Var, Sort, Pi, App, Def, nameless}
 use Rattle.core_terms.specs.Pool.{Pool}
 use Rattle.core_terms.specs.declared.node.Node.{Node}
 use Rattle.core_terms.specs.declared.node.Node.TheVariants as N
-use Rattle.elab_cli.specs.declared.same.Shape.{Shape}
-use Rattle.elab_cli.specs.declared.same.Shape.TheVariants as S
+use Rattle.file_load.specs.declared.same.Shape.{Shape}
+use Rattle.file_load.specs.declared.same.Shape.TheVariants as S
 
 -- the terms ts are the pool's first, without their names
 pub record IsOf (ts : List Term) (p : Pool) : Type 0 where

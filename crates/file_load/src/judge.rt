@@ -1,17 +1,18 @@
 //! Declarations: each is resolved, and then its types are judged.
 
 ghost use Rattle.std.specs.Prelude.{◌≡◌, ◌++◌, IfOk, OnOk};
-ghost use Rattle.elab_cli.specs.Accept.{with_decl, with_line, with_lines};
-ghost use Rattle.elab_cli.specs.Judged.{Agrees, Judges, LoadsDecl, LoadsDecls, declared, postulates_of};
-ghost use Rattle.elab_cli.specs.Load as spec;
+ghost use Rattle.file_load.specs.Accept.{with_decl, with_line, with_lines};
+ghost use Rattle.file_load.specs.Judged.{Agrees, Judges, LoadsDecl, LoadsDecls, declared, postulates_of};
+ghost use Rattle.file_load.specs.Load as spec;
 
-use crate::error::{LoadError, LoadKind};
+use crate::errors::{error_at, named_error};
 use crate::infer::is_type;
 use crate::state::Core;
 use crate::translate::translate;
 use core_terms::{CoreDecl, NoMemory, Signature, TermId};
 use el_outside::Pos;
 use scope_check::{Resolved, ResolvedName, ResolvedSignature, ScopeError, ScopeKind, resolve};
+use session_text::{LoadError, LoadKind};
 use source_tree::Decl;
 
 /// The error of a name.
@@ -24,17 +25,6 @@ fn scope_kind(kind: ScopeKind) -> LoadKind
         ScopeKind::NotAConstructor => LoadKind::NotAConstructor,
         ScopeKind::Nonlinear => LoadKind::Nonlinear,
         ScopeKind::Misplaced => LoadKind::Misplaced,
-    }
-}
-
-/// The error of a type that is not accepted.
-fn refused() -> LoadError
-    ensures { result ≡ spec.error_at spec.beginning LoadKind.Refused }
-{
-    LoadError {
-        pos: Pos { line: 1, col: 1 },
-        kind: LoadKind::Refused,
-        name: None,
     }
 }
 
@@ -106,17 +96,17 @@ fn load_decl(core: &mut Core, decl: &Decl) -> Result<Option<LoadError>, NoMemory
         Ok(resolved) => resolved,
         Err(ScopeError::NoMemory) => return Err(NoMemory),
         Err(ScopeError::Bad { pos, kind, name }) => {
-            return Ok(Some(LoadError {
-                pos,
-                kind: scope_kind(kind),
-                name: Some(name),
-            }));
+            let Ok(error) = named_error(core.alloc, pos, scope_kind(kind), name) else {
+                return Err(NoMemory);
+            };
+            return Ok(Some(error));
         }
     };
     if judge(core, &resolved)? {
         Ok(None)
     } else {
-        Ok(Some(refused()))
+        let beginning = Pos { line: 1, col: 1 };
+        Ok(Some(error_at(core.alloc, beginning, LoadKind::Refused)))
     }
 }
 

@@ -2,15 +2,24 @@
 ghost use Rattle.std.specs.Prelude.{◌≡◌, ℕ, List, [], None, Err};
 ghost use Rattle.source_tree.specs.declared.decl.File.{File};
 ghost use Rattle.scope_check.specs.Known.{nothing_known};
-ghost use Rattle.elab_cli.specs.declared.error.LoadKind.TheVariants as kind;
-ghost use Rattle.elab_cli.specs.declared.verdict.Verdict.{Verdict};
-ghost use Rattle.elab_cli.specs.Load.{DeclaresFile, HasVerdict, beginning, error_at};
-ghost use Rattle.elab_cli.specs.Refused.{RefusesType};
-ghost use Rattle.elab_cli.specs.Unbuilt.{in_file};
+ghost use Rattle.session_text.specs.declared.error.LoadKind.TheVariants as kind;
+ghost use Rattle.file_load.specs.Load.{DeclaresFile, HasVerdict, IsLoaded, Made, Verdict, beginning, error_at};
+ghost use Rattle.file_load.specs.Refused.{RefusesType};
+ghost use Rattle.file_load.specs.Unbuilt.{in_file};
 
 /// One thing at most is said of a text, so that each answer comes exactly where its definition says.
 pub fn one_verdict()
     ensures { (text : List ℕ) (v w : Verdict) → HasVerdict text v → HasVerdict text w → v ≡ w }
+{}
+
+/// Something is said of each text: it has a first error, or a report and a signature.
+pub fn some_verdict()
+    ensures { (text : List ℕ) → (v : Verdict) × HasVerdict text v }
+{}
+
+/// The signature of a text is one.
+pub fn one_signature()
+    ensures { (text : List ℕ) (m n : Made) → IsLoaded text m → IsLoaded text n → m.signature ≡ n.signature }
 {}
 
 /// A file all of whose forms are built is refused for one thing alone: a line has a type that is no

@@ -4,7 +4,7 @@
 ghost use Rattle.std.specs.Prelude.{◌≡◌, ◌<◌, ◌+◌, ◌↔◌, ◌≤◌, [], length, get_or, take, IfOk, OnOk, OnErr, IsTrue};
 ghost use Rattle.core_rules.specs.Term.{Sort, IsSameTerm};
 ghost use Rattle.core_terms.specs.Pool.{Below, tree};
-ghost use Rattle.elab_cli.specs.Same.{IsOf, AreApart, Grows, HasParts, class_terms, flag_of, is_implicit as implicit, shape_of as shape_of_lem, shape_term};
+ghost use Rattle.file_load.specs.Same.{IsOf, AreApart, Grows, HasParts, class_terms, flag_of, is_implicit as implicit, shape_of as shape_of_lem, shape_term};
 
 use core_rules::Flag;
 use core_terms::{NoMemory, Node, TermId, TermPool};
@@ -95,7 +95,7 @@ impl Model for Sameness {
 
     ghost coded = { coded_list coded_term };
 
-    ghost use Rattle.elab_cli.specs.Same.{class_terms, terms_of, AreClasses};
+    ghost use Rattle.file_load.specs.Same.{class_terms, terms_of, AreClasses};
 
     ghost view = { λ s. terms_of (class_terms s.shapes.keys) s.classes.items };
 
@@ -171,6 +171,3 @@ impl Sameness {
         Ok(self.has_one(t, u))
     }
 }
-
-#[cfg(test)]
-mod tests;

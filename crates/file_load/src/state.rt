@@ -1,5 +1,5 @@
 ghost use Rattle.std.specs.Prelude.{IfOk};
-ghost use Rattle.elab_cli.specs.Judged.{IsNew};
+ghost use Rattle.file_load.specs.Judged.{IsNew};
 
 use crate::same::Sameness;
 use core_terms::{NoMemory, Signature, TermPool};

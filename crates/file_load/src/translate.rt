@@ -2,8 +2,8 @@
 
 ghost use Rattle.std.specs.Prelude.{◌≡◌, ◌<◌, length, map, Some, IfOk};
 ghost use Rattle.core_terms.specs.Pool.{Below, Extends, StandsFor, node_tree, tree};
-ghost use Rattle.elab_cli.specs.Inferred.{Answers};
-ghost use Rattle.elab_cli.specs.Translated as spec;
+ghost use Rattle.file_load.specs.Inferred.{Answers};
+ghost use Rattle.file_load.specs.Translated as spec;
 ghost use Rattle.scope_check.specs.declared.resolved.ResolvedExpr.{out-ResolvedExpr};
 
 use core_rules::Flag;

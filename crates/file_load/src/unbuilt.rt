@@ -1,7 +1,7 @@
 //! The first form of a file, in the order of the text, that is not built so far. It takes no memory.
 
 ghost use Rattle.std.specs.Prelude.{◌≡◌, map};
-ghost use Rattle.elab_cli.specs.Unbuilt as spec;
+ghost use Rattle.file_load.specs.Unbuilt as spec;
 ghost use Rattle.source_tree.specs.declared.expr.Expr.{out-Expr};
 ghost use Rattle.source_tree.specs.declared.expr.Arg.{out-Arg};
 ghost use Rattle.source_tree.specs.declared.expr.Binder.{out-Binder};

@@ -5,11 +5,11 @@ use Rattle.std.specs.List.{AllByRecursion}
 use Rattle.core_rules.specs.Term.{Term}
 use Rattle.core_terms.specs.Growth.{Extends-length, Extends-trans}
 use Rattle.core_terms.specs.Signature.{signature_in}
-use Rattle.elab_cli.specs.Inferred.{Answers, IsReady, context_in}
-use Rattle.elab_cli.specs.declared.infer.Argument.{Argument}
-use Rattle.elab_cli.proofs.Inferring.{all-front, all-last, head-refused, longer-push, next-refused, next-reading, on-ok, outer-push, ready-extends, ready-push, step-ready, step-refused, step-walk, walk-first, walk-last, walk-refused}
-use Rattle.elab_cli.proofs.Sameness.{IsOf-Extends}
-use Rattle.elab_cli.proofs.infer.+infer.Goals as goal
+use Rattle.file_load.specs.Inferred.{Answers, IsReady, context_in}
+use Rattle.file_load.specs.declared.infer.Argument.{Argument}
+use Rattle.file_load.proofs.Inferring.{all-front, all-last, head-refused, longer-push, next-refused, next-reading, on-ok, outer-push, ready-extends, ready-push, step-ready, step-refused, step-walk, walk-first, walk-last, walk-refused}
+use Rattle.file_load.proofs.Sameness.{IsOf-Extends}
+use Rattle.file_load.proofs.infer.+infer.Goals as goal
 
 pub type_of_application-returns-in_default-clause-is : goal.type_of_application-returns-in_default-clause-is
 type_of_application-returns-in_default-clause-is t c =

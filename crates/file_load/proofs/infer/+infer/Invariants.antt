@@ -1,10 +1,10 @@
 use Rattle.std.proofs.Common.{◌≡◌, ◌≤◌, ◌+◌, ◌*◌, max, length, take}
 use Rattle.std.specs.List.{AllByRecursion}
 use Rattle.core_terms.specs.Pool.{Extends}
-use Rattle.elab_cli.specs.Same.{IsOf}
-use Rattle.elab_cli.specs.Inferred.{IsReady}
-use Rattle.elab_cli.proofs.Inferring.{IsReading, IsWalk}
-use Rattle.elab_cli.proofs.infer.+infer.Given as goal
+use Rattle.file_load.specs.Same.{IsOf}
+use Rattle.file_load.specs.Inferred.{IsReady}
+use Rattle.file_load.proofs.Inferring.{IsReading, IsWalk}
+use Rattle.file_load.proofs.infer.+infer.Given as goal
 
 abbrev pub decreases-level_of_term : goal.decreases-level_of_term
 decreases-level_of_term l = 5 * l.t + 1

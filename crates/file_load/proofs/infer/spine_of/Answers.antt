@@ -1,7 +1,7 @@
 use Rattle.std.proofs.Common.{arith, ◌≤◌, ◌<◌, max}
-use Rattle.elab_cli.specs.declared.infer.Argument.{Argument}
-use Rattle.elab_cli.proofs.Inferring.{all-push, spine-step}
-use Rattle.elab_cli.proofs.infer.spine_of.Goals as goal
+use Rattle.file_load.specs.declared.infer.Argument.{Argument}
+use Rattle.file_load.proofs.Inferring.{all-push, spine-step}
+use Rattle.file_load.proofs.infer.spine_of.Goals as goal
 
 pub loop-flag-preserved : goal.loop-flag-preserved
 loop-flag-preserved c =

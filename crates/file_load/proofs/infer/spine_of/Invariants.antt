@@ -1,8 +1,8 @@
 use Rattle.std.proofs.Common.{◌≡◌, ◌≤◌, ◌∷◌, [], max}
 use Rattle.std.specs.List.{AllByRecursion}
 use Rattle.core_terms.specs.Pool.{tree}
-use Rattle.elab_cli.specs.Inferred.{unwound}
-use Rattle.elab_cli.proofs.infer.spine_of.Given as goal
+use Rattle.file_load.specs.Inferred.{unwound}
+use Rattle.file_load.proofs.infer.spine_of.Given as goal
 
 abbrev pub invariant-loop-flag : goal.invariant-loop-flag
 invariant-loop-flag l = record {

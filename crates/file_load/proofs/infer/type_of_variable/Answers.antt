@@ -3,8 +3,8 @@ use Rattle.std.proofs.lemmas.Option.{slice_get_read}
 use Rattle.core_rules.specs.Signature.{Entry}
 use Rattle.core_rules.specs.Substitution.{shift}
 use Rattle.core_terms.specs.Pool.{StandsFor, tree}
-use Rattle.elab_cli.proofs.Inferring.{variable-at, variable-past}
-use Rattle.elab_cli.proofs.infer.type_of_variable.Goals as goal
+use Rattle.file_load.proofs.Inferring.{variable-at, variable-past}
+use Rattle.file_load.proofs.infer.type_of_variable.Goals as goal
 
 pub returns-then-context-place-clause-is : goal.returns-then-context-place-clause-is
 returns-then-context-place-clause-is c = variable-past c.args.pool.now c.args.context.now c.args.index c.if-context-place.true

@@ -5,12 +5,12 @@ use Rattle.core_rules.specs.Term.{Term}
 use Rattle.core_rules.specs.Signature.{Signature}
 use Rattle.core_terms.specs.Pool.{tree}
 use Rattle.core_terms.specs.Signature.{signature_in}
-use Rattle.elab_cli.specs.Accept.{level_of}
-use Rattle.elab_cli.specs.Inferred.{StandsForSome}
-use Rattle.elab_cli.specs.Judged.{declared}
-use Rattle.elab_cli.specs.Translated.{term_of}
-use Rattle.elab_cli.proofs.Judging.{accepts, before, refused_type}
-use Rattle.elab_cli.proofs.judge.declare.Goals as goal
+use Rattle.file_load.specs.Accept.{level_of}
+use Rattle.file_load.specs.Inferred.{StandsForSome}
+use Rattle.file_load.specs.Judged.{declared}
+use Rattle.file_load.specs.Translated.{term_of}
+use Rattle.file_load.proofs.Judging.{accepts, before, refused_type}
+use Rattle.file_load.proofs.judge.declare.Goals as goal
 
 pub returns-then-not-branch : goal.returns-then-not-branch
 returns-then-not-branch c =

@@ -1,7 +1,7 @@
 use Rattle.std.proofs.Common.{◌≡◌, drop}
-use Rattle.elab_cli.specs.Accept.{with_lines}
-use Rattle.elab_cli.specs.Judged.{Agrees, declared}
-use Rattle.elab_cli.proofs.judge.declare_lines.Given as goal
+use Rattle.file_load.specs.Accept.{with_lines}
+use Rattle.file_load.specs.Judged.{Agrees, declared}
+use Rattle.file_load.proofs.judge.declare_lines.Given as goal
 
 abbrev pub invariant-loop-line : goal.invariant-loop-line
 invariant-loop-line l = record {

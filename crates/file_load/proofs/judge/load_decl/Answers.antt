@@ -2,16 +2,16 @@ use Rattle.std.proofs.Common.{◌≡◌, None, Ok, Err, subst}
 use Rattle.scope_check.specs.declared.error.ScopeError.TheVariants.{Bad}
 use Rattle.scope_check.specs.Known.{Known}
 use Rattle.scope_check.specs.Resolves.{Resolves}
-use Rattle.elab_cli.specs.declared.state.Core.{Core}
-use Rattle.elab_cli.specs.Accept.{with_decl}
-use Rattle.elab_cli.specs.Load.{Declares}
-use Rattle.elab_cli.specs.Judged.{IsDeclared, declared}
-use Rattle.elab_cli.proofs.judge.load_decl.Goals as goal
+use Rattle.file_load.specs.declared.state.Core.{Core}
+use Rattle.file_load.specs.Accept.{with_decl}
+use Rattle.file_load.specs.Load.{Declares}
+use Rattle.file_load.specs.Judged.{IsDeclared, declared}
+use Rattle.file_load.proofs.judge.load_decl.Goals as goal
 
 pub returns-in-Err-Bad : goal.returns-in-Err-Bad
 returns-in-Err-Bad c = λ ds.
     let is : Resolves c.args.core.now.scope c.args.decl.now (Err (Bad c.in-Err-Bad.pos c.in-Err-Bad.kind c.in-Err-Bad.name)) = (rw c.in-Err-Bad.field-0-is at c.in-Err-Bad.ensures.resolves) (λ h. cc h) in
-    rw c.scope_kind.ensures (Declares.unresolved is)
+    rw (c.in-Ok-named_error.ensures, c.scope_kind.ensures) (Declares.unresolved is)
 
 pub returns-then-branch : goal.returns-then-branch
 returns-then-branch c =
@@ -29,4 +29,4 @@ returns c = λ ds.
     let old = c.args.core.now in
     let is : Resolves old.scope c.args.decl.now (Ok (c.in-Ok.resolved, c.resolve.new.scope)) = c.in-Ok.ensures.resolves in
     let none : with_decl (declared old) c.in-Ok.resolved ≡ None = rw c.if-branch.false at c.in_ok-judge.ensures in
-    rw c.refused.ensures (Declares.refused is none)
+    rw c.error_at.ensures (Declares.refused is none)

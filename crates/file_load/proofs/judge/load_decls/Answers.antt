@@ -1,9 +1,9 @@
 use Rattle.std.proofs.Common.{◌+◌, ◌∷◌, List, drop, Ok, Err, subst, sym}
 use Rattle.source_tree.specs.declared.decl.Decl.{Decl}
-use Rattle.elab_cli.specs.Load.{Declares}
-use Rattle.elab_cli.specs.Judged.{GoesOn, declared}
-use Rattle.elab_cli.proofs.Firsts.{drop_next, drop_end}
-use Rattle.elab_cli.proofs.judge.load_decls.Goals as goal
+use Rattle.file_load.specs.Load.{Declares}
+use Rattle.file_load.specs.Judged.{GoesOn, declared}
+use Rattle.file_load.proofs.Firsts.{drop_next, drop_end}
+use Rattle.file_load.proofs.judge.load_decls.Goals as goal
 
 pub returns-in-Some : goal.returns-in-Some
 returns-in-Some c =
@@ -25,4 +25,4 @@ loop-decl-preserved c =
 pub returns : goal.returns
 returns c =
     let l = c.loop-decl in
-    (l.invariant.left (Ok (declared l.core)) (subst (λ (ds : List Decl). Declares l.core.scope (declared l.core) ds (Ok (declared l.core))) (sym (drop_end c.args.decls.now l.decl-index c.loop-decl-test.false)) Declares.none), l.invariant.agrees)
+    (l.invariant.left (Ok (l.core.scope, declared l.core)) (subst (λ (ds : List Decl). Declares l.core.scope (declared l.core) ds (Ok (l.core.scope, declared l.core))) (sym (drop_end c.args.decls.now l.decl-index c.loop-decl-test.false)) Declares.none), l.invariant.agrees)

@@ -1,9 +1,9 @@
 use Rattle.std.proofs.Common.{arith, ap, ◌∙◌, get_or, ℕ}
 use Rattle.core_rules.specs.Term.{Sort}
-use Rattle.elab_cli.specs.Same.{class_terms, Grows}
-use Rattle.elab_cli.proofs.Sameness.{found, found-term}
-use Rattle.elab_cli.proofs.same.class_of.Goals as goal
-use Rattle.elab_cli.proofs.same.class_of.Goals.{In-Ok}
+use Rattle.file_load.specs.Same.{class_terms, Grows}
+use Rattle.file_load.proofs.Sameness.{found, found-term}
+use Rattle.file_load.proofs.same.class_of.Goals as goal
+use Rattle.file_load.proofs.same.class_of.Goals.{In-Ok}
 
 grown : (c : In-Ok) → Grows c.args.shapes.now.keys c.insert_full.new.self.keys
 grown c = found c.args.shapes.now.keys c.insert_full.new.self.keys c.args.shape c.requires.apart c.requires.parts c.in-Ok.ensures.keys

@@ -3,13 +3,13 @@ use Rattle.std.specs.Prelude.{Option, IfOk}
 use Rattle.core_rules.specs.Term.{Term}
 use Rattle.core_terms.specs.Pool.{tree}
 use Rattle.core_terms.specs.Growth.{Extends-trans, Extends-tree}
-use Rattle.elab_cli.specs.Inferred.{Answers, StandsForSome}
+use Rattle.file_load.specs.Inferred.{Answers, StandsForSome}
 use Rattle.scope_check.specs.declared.resolved.ResolvedExpr.{out-ResolvedExpr}
-use Rattle.elab_cli.specs.Translated as spec
-use Rattle.elab_cli.specs.Translated.{term_of}
-use Rattle.elab_cli.proofs.Firsts.{drop_next}
-use Rattle.elab_cli.proofs.Translating.{apps-none, bound-none, bound-last, term_at, term_app, term_pi, term_forall, term_arrow}
-use Rattle.elab_cli.proofs.translate.+translate.Goals as goal
+use Rattle.file_load.specs.Translated as spec
+use Rattle.file_load.specs.Translated.{term_of}
+use Rattle.file_load.proofs.Firsts.{drop_next}
+use Rattle.file_load.proofs.Translating.{apps-none, bound-none, bound-last, term_at, term_app, term_pi, term_forall, term_arrow}
+use Rattle.file_load.proofs.translate.+translate.Goals as goal
 
 pub applied-returns-in_default-clause-is : goal.applied-returns-in_default-clause-is
 applied-returns-in_default-clause-is t c =

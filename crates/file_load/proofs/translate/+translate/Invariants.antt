@@ -1,7 +1,7 @@
 use Rattle.std.proofs.Common.{◌≡◌, ◌≤◌, ◌<◌, length, map, drop, take, Some}
 use Rattle.core_terms.specs.Pool.{Extends, tree}
-use Rattle.elab_cli.specs.Translated as spec
-use Rattle.elab_cli.proofs.translate.+translate.Given as goal
+use Rattle.file_load.specs.Translated as spec
+use Rattle.file_load.proofs.translate.+translate.Given as goal
 
 abbrev pub invariant-applied-loop-arg : goal.invariant-applied-loop-arg
 invariant-applied-loop-arg l = record {

@@ -1,7 +1,7 @@
 use Rattle.std.proofs.Common.{◌≤◌, length, drop}
 use Rattle.core_terms.specs.Pool.{Extends, StandsFor, tree}
-use Rattle.elab_cli.specs.Translated as spec
-use Rattle.elab_cli.proofs.translate.grouped.Given as goal
+use Rattle.file_load.specs.Translated as spec
+use Rattle.file_load.proofs.translate.grouped.Given as goal
 
 abbrev pub invariant-loop-left : goal.invariant-loop-left
 invariant-loop-left l = record {

@@ -1,8 +1,8 @@
 use Rattle.std.proofs.Common.{◌∙◌, rules, arith}
 use Rattle.std.proofs.lemmas.Grind.{common_steps}
-use Rattle.elab_cli.specs.Unbuilt as spec
-use Rattle.elab_cli.proofs.Firsts.{first_next}
-use Rattle.elab_cli.proofs.unbuilt.+unbuilt.Goals as goal
+use Rattle.file_load.specs.Unbuilt as spec
+use Rattle.file_load.proofs.Firsts.{first_next}
+use Rattle.file_load.proofs.unbuilt.+unbuilt.Goals as goal
 
 pub in_args-returns-in-Some : goal.in_args-returns-in-Some
 in_args-returns-in-Some t c =

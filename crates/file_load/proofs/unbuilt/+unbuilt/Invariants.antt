@@ -1,7 +1,7 @@
 use Rattle.std.proofs.Common.{◌≡◌, map, drop}
-use Rattle.elab_cli.specs.Unbuilt as spec
-use Rattle.elab_cli.specs.Unbuilt.{first_of}
-use Rattle.elab_cli.proofs.unbuilt.+unbuilt.Given as goal
+use Rattle.file_load.specs.Unbuilt as spec
+use Rattle.file_load.specs.Unbuilt.{first_of}
+use Rattle.file_load.proofs.unbuilt.+unbuilt.Given as goal
 
 abbrev pub invariant-in_args-loop-arg : goal.invariant-in_args-loop-arg
 invariant-in_args-loop-arg l = first_of (map spec.in_arg l.args) ≡ first_of (map spec.in_arg (drop l.arg-index l.args))

@@ -1,6 +1,6 @@
 use Rattle.std.proofs.Common.{◌-◌, length}
-use Rattle.elab_cli.specs.Same.{IsOf}
-use Rattle.elab_cli.proofs.same.Sameness.class_all.Given as goal
+use Rattle.file_load.specs.Same.{IsOf}
+use Rattle.file_load.proofs.same.Sameness.class_all.Given as goal
 
 abbrev pub invariant-loop-self : goal.invariant-loop-self
 invariant-loop-self l = IsOf l.self l.pool

@@ -1,10 +1,10 @@
 use Rattle.std.proofs.Common.{arith, ap, sym, ◌∙◌, ◌≡◌, ℕ, List, length, get_or}
 use Rattle.core_rules.specs.Term.{Sort, nameless}
 use Rattle.core_terms.specs.Pool.{tree}
-use Rattle.elab_cli.specs.Same.{class_terms, shape_of, shape_term}
-use Rattle.elab_cli.proofs.Sameness.{AreSeen, AreClasses-first, IsOf-first, AreClasses-next, IsOf-next, next-term}
-use Rattle.elab_cli.proofs.same.Sameness.class_next.Goals as goal
-use Rattle.elab_cli.proofs.same.Sameness.class_next.Goals.{After-class_of}
+use Rattle.file_load.specs.Same.{class_terms, shape_of, shape_term}
+use Rattle.file_load.proofs.Sameness.{AreSeen, AreClasses-first, IsOf-first, AreClasses-next, IsOf-next, next-term}
+use Rattle.file_load.proofs.same.Sameness.class_next.Goals as goal
+use Rattle.file_load.proofs.same.Sameness.class_next.Goals.{After-class_of}
 
 seen : (c : After-class_of) → AreSeen c.self.inside.shapes.keys c.self.inside.classes.items c.args.self.now c.args.pool.now
 seen c = record { classes = c.self.invariant; view = c.self.view_is; of = c.requires.of }

@@ -1,0 +1,11 @@
+pub mod Accepted
+pub mod Equal
+pub mod Existing
+pub mod Firsts
+pub mod Inferring
+pub mod Judging
+pub mod Loading
+pub mod Sameness
+pub mod Translating
+pub mod TranslatedTypes
+pub mod Unique

@@ -1,0 +1,3 @@
+postulate
+  Nat : Set
+  z : Nat
