@@ -7,5 +7,6 @@ pub mod Judging
 pub mod Loading
 pub mod Sameness
 pub mod Translating
+pub mod Told
 pub mod TranslatedTypes
 pub mod Unique
