@@ -1,7 +1,7 @@
 -- The endings of `check NAME`.
 use Rattle.std.proofs.Common.{◌≡◌, ◌≤◌, ◌⊎◌, inl, inr, length, ℕ, List, [], ◌+◌, take, length-take, true, None, Some, Ok, Err, sym, ap, subst, refl, arith}
 use Rattle.std.specs.declared.option.Option.{Option}
-use Rattle.std.specs.Prelude.{IsSomeAnd, Result}
+use Rattle.std.specs.Prelude.{IfOk, IsSomeAnd, Result}
 use Rattle.std.proofs.lemmas.List.{take_all}
 use Rattle.std.proofs.lemmas.Grind.{common_steps}
 use Rattle.std.specs.FinMap.{get}
@@ -15,9 +15,12 @@ use Rattle.file_load.specs.declared.loaded_file.Loaded.{Loaded}
 use Rattle.file_load.specs.declared.loaded_file.Loaded.TheVariants as answer
 use Rattle.file_load.specs.Load.{HasVerdict, IsInError, IsLoaded, Made, Reads, Verdict, limit}
 use Rattle.file_load.specs.LoadedFile as loaded
-use Rattle.file_load.specs.LoadedFile.{made_of}
-use Rattle.elab_cli.specs.Said.{IsOut, SendsAll, Tells, TellsVerdict}
-use Rattle.elab_cli.specs.Transcript.{IsJudged, CheckAnswers, AppendsPart, bytes_of, status_of}
+use Rattle.file_load.specs.LoadedFile.{made_of, report_of}
+use Rattle.file_load.specs.declared.loaded_file.LoadedFile.{LoadedFile}
+use Rattle.session_text.specs.Lines.{report_bytes}
+use Rattle.std.specs.declared.vec.Vec.{Vec}
+use Rattle.elab_cli.specs.Said.{IsOut, Sends, SendsAll, Tells, TellsVerdict}
+use Rattle.elab_cli.specs.Transcript.{IsJudged, CheckAnswers, AppendsPart, bytes_of, status_of, status_of_report}
 use Rattle.elab_cli.specs.declared.status.Status.{Status}
 use Rattle.elab_cli.specs.declared.status.Status.TheVariants as status
 
@@ -74,3 +77,9 @@ pub told_answers : (files : Option FileMap) (name bytes : List ℕ) (old new : O
 told_answers files name bytes old new (answer.Error e) result g h t = verdict_answers files name old new (Err e) result (judged_read files name bytes (Err e) g h) t
 told_answers files name bytes old new (answer.Done f) result g h t = verdict_answers files name old new (Ok (made_of f)) result (judged_read files name bytes (Ok (made_of f)) g h.verdict) t
 told_answers files name bytes old new answer.NoMemory result g h t = out_answers files name old new result t
+
+-- the lines of a report, and how the program ends after them
+pub told_done : {A E : Type 0} (f : LoadedFile) (lines : Result (Vec ℕ A) E) (meant : Status) (old new : Option (List ℕ)) (result : Status) → IfOk lines (λ v. v.items ≡ report_bytes (report_of f)) → meant ≡ status_of_report (report_of f)
+    → Sends lines meant old new result → TellsVerdict (Ok (made_of f)) old new result
+told_done f (Ok v) meant old new result bytes is s = inl (subst (λ (ys : List ℕ). SendsAll ys (status_of_report (report_of f)) old new result) bytes (subst (λ (m : Status). SendsAll v.items m old new result) is s))
+told_done f (Err e) meant old new result bytes is s = inr s

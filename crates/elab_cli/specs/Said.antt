@@ -4,7 +4,6 @@ use Rattle.std.specs.declared.option.Option.{Option}
 use Rattle.std.specs.Io.KnownBytes.{Appends}
 use Rattle.elab_cli.specs.Transcript.{AppendsPart, bytes_of, status_of}
 use Rattle.std.specs.declared.vec.Vec.{Vec}
-use Rattle.el_outside.specs.declared.no_memory.NoMemory.{NoMemory}
 use Rattle.file_load.specs.declared.loaded_file.Loaded.{Loaded}
 use Rattle.file_load.specs.declared.loaded_file.Loaded.TheVariants as answer
 use Rattle.file_load.specs.Load.{Verdict}
@@ -32,7 +31,8 @@ pub record IsOut (old new : Option (List ℕ)) (result : Status) : Type 0 where
   pub is : result ≡ status.NoMemory
   pub nothing : Appends old new []
 
-abbrev pub Sends : Result (Vec ℕ) NoMemory → Status → Option (List ℕ) → Option (List ℕ) → Status → Type 0
+-- what is to go out are these bytes, unless memory ran out before
+abbrev pub Sends : {A E : Type 0} → Result (Vec ℕ A) E → Status → Option (List ℕ) → Option (List ℕ) → Status → Type 0
 Sends (Ok v) meant old new result = SendsAll v.items meant old new result
 Sends (Err e) meant old new result = IsOut old new result
 

@@ -1,4 +1,4 @@
-ghost use Rattle.std.specs.Prelude.{◌≡◌, ◌≤◌, ◌<◌, map, string_bytes, length, OnOk, OnErr, IfOk, IsErrOf};
+ghost use Rattle.std.specs.Prelude.{◌≡◌, ◌≢◌, ◌≤◌, ◌<◌, map, string_bytes, length, OnOk, OnErr, IfOk, IsErrOf};
 ghost use Rattle.std.specs.Io.KnownBytes.{Appends};
 ghost use Rattle.el_outside.specs.Causes.{Rose};
 ghost use Rattle.elab_cli.specs.Ask.{ask_of};
@@ -78,7 +78,8 @@ fn usage<O: Sink>(output: &mut O) -> Status
 
 /// How the program ends once a report went out.
 fn report_status(report: &Report) -> Status
-    ensures { result ≡ status_of_report report.now }
+    ensures is { result ≡ status_of_report report.now }
+    ensures no_fault { result ≢ Status.OutputFault }
 {
     if report.complete {
         Status::Done
@@ -89,7 +90,8 @@ fn report_status(report: &Report) -> Status
 
 /// Writes these lines, unless memory ran out before. The status is the one that is meant, once they went out.
 fn send<O: Sink>(lines: Result<Vec<u8>, NoMemory>, meant: Status, output: &mut O) -> Status
-    requires { IfOk lines (λ v. 0 < length v.items) }
+    requires lines { IfOk lines (λ v. 0 < length v.items) }
+    requires meant { meant ≢ Status.OutputFault }
     ensures sent { Sends lines meant (O.written output.old) (O.written output.new) result }
     ensures failed { result ≡ Status.OutputFault → Rose (O.faults output.old) (O.faults output.new) }
 {
