@@ -26,7 +26,7 @@ use source_tree::File;
 use std::alloc::Global;
 
 /// The most bytes that a text may have.
-pub const LIMIT: usize = 1_048_576;
+const LIMIT: usize = 1_048_576;
 
 fn lex_kind(kind: LexKind) -> LoadKind
     ensures { result ≡ spec.lex_kind kind }
