@@ -9,6 +9,7 @@ use crate::limit::Limit;
 use crate::number::value;
 use crate::rule::is_accepted;
 use clap::ArgMatches;
+use core_terms::Limits;
 use el_outside::{NoMemory, Text};
 use std::alloc::Global;
 
@@ -28,14 +29,6 @@ pub enum Mode {
     Session,
     /// The report of a text that is made from two numbers: the seed, and how many functions.
     Gen(u64, u32),
-}
-
-/// How far the checks may go.
-#[derive(Clone, Copy, Debug, PartialEq, Eq)]
-pub struct Limits {
-    pub fuel: u32,
-    pub depth: u32,
-    pub order: u64,
 }
 
 /// Why there is no answer to what the words ask for.

@@ -9,6 +9,6 @@ mod number;
 mod rule;
 mod word;
 
-pub use ask::{Ask, Limits, Mode, WordsError, read_words};
+pub use ask::{Ask, Mode, WordsError, read_words};
 pub use command::parse;
 pub use rule::is_accepted;
