@@ -1,5 +1,5 @@
 -- What the words of a command line ask for.
-use Rattle.std.specs.Prelude.{◌&&◌, ℕ, Bool, List, [], ◌∷◌, Option, Some, None, option_map, option_and_then, codes, if◌then◌else◌}
+use Rattle.std.specs.Prelude.{◌≤◌, ◌&&◌, ℕ, Bool, List, [], ◌∷◌, Option, Some, None, option_map, option_and_then, codes, if◌then◌else◌}
 use Rattle.std.specs.Str.{bytes_eq}
 use Rattle.command_line.specs.declared.ask.Ask.{Ask}
 use Rattle.core_terms.specs.declared.telescope.Limits.{Limits}
@@ -27,6 +27,13 @@ mode_of _ = None
 
 abbrev pub limits_of : Parts → Limits
 limits_of p = record { fuel = limit_of Fuel p.fuel; depth = limit_of Depth p.depth; order = limit_of Order p.order }
+
+-- the limits are in their ranges
+pub record AreInRange (limits : Limits) : Type 0 where
+  pub fuel_least : 1 ≤ limits.fuel
+  pub fuel_most : limits.fuel ≤ 1000000
+  pub depth_least : 1 ≤ limits.depth
+  pub depth_most : limits.depth ≤ 2000
 
 abbrev pub ask_with : Parts → Mode → Ask
 ask_with p mode = record { mode = mode; limits = limits_of p }

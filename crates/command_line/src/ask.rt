@@ -1,6 +1,6 @@
 ghost use Rattle.std.specs.Prelude.{◌≡◌, None, Some, Err, IfOk, is_some, map, string_bytes, true};
 ghost use Rattle.clap.specs.Words.{found_of, first_value};
-ghost use Rattle.command_line.specs.Ask.{ask_of, limits_of, mode_of};
+ghost use Rattle.command_line.specs.Ask.{AreInRange, ask_of, limits_of, mode_of};
 ghost use Rattle.command_line.specs.Command.{parts_in};
 ghost use Rattle.command_line.specs.Rule.{AreValues};
 
@@ -71,7 +71,8 @@ fn read_mode(alloc: Global, matches: &ArgMatches) -> Result<Mode, NoMemory>
 /// The limits, of words that the rule takes.
 fn read_limits(matches: &ArgMatches) -> Limits
     requires { AreValues (parts_in (found_of matches.now)) }
-    ensures { result ≡ limits_of (parts_in (found_of matches.now)) }
+    ensures is { result ≡ limits_of (parts_in (found_of matches.now)) }
+    ensures ranges { AreInRange result }
 {
     Limits {
         fuel: Limit::Fuel.of(matches.get_str("fuel")) as u32,
@@ -84,6 +85,7 @@ fn read_limits(matches: &ArgMatches) -> Limits
 pub fn read_words(alloc: Global, words: &[String]) -> Result<Ask, WordsError>
     ensures ask { IfOk result (λ ask. ask_of (map string_bytes words.now) ≡ Some ask) }
     ensures refused { result ≡ Err WordsError.Refused → ask_of (map string_bytes words.now) ≡ None }
+    ensures ranges { IfOk result (λ ask. AreInRange ask.limits) }
 {
     if !is_accepted(words) {
         return Err(WordsError::Refused);

@@ -1,5 +1,5 @@
 -- The endings of `check NAME`.
-use Rattle.std.proofs.Common.{◌≡◌, ◌≤◌, ◌⊎◌, inl, inr, length, ℕ, List, [], ◌+◌, take, length-take, true, None, Some, Ok, Err, sym, ap, subst, refl, arith}
+use Rattle.std.proofs.Common.{◌≡◌, ◌≤◌, inl, inr, length, ℕ, List, ◌+◌, take, length-take, true, None, Some, Ok, Err, sym, ap, subst, refl, arith}
 use Rattle.std.specs.declared.option.Option.{Option}
 use Rattle.std.specs.Prelude.{IfOk, IsSomeAnd, Result}
 use Rattle.std.proofs.lemmas.List.{take_all}
@@ -20,7 +20,7 @@ use Rattle.file_load.specs.declared.loaded_file.LoadedFile.{LoadedFile}
 use Rattle.session_text.specs.Lines.{report_bytes}
 use Rattle.std.specs.declared.vec.Vec.{Vec}
 use Rattle.elab_cli.specs.Said.{IsOut, Sends, SendsAll, Tells, TellsVerdict}
-use Rattle.elab_cli.specs.Transcript.{IsJudged, CheckAnswers, AppendsPart, bytes_of, status_of, status_of_report}
+use Rattle.elab_cli.specs.Transcript.{IsJudged, CheckAnswers, bytes_of, status_of, status_of_report}
 use Rattle.elab_cli.specs.declared.status.Status.{Status}
 use Rattle.elab_cli.specs.declared.status.Status.TheVariants as status
 

@@ -1,4 +1,4 @@
-use Rattle.std.proofs.Common.{◌≡◌, ℕ, List, ap, sym, ◌∙◌}
+use Rattle.std.proofs.Common.{◌≡◌, ap, ◌∙◌}
 use Rattle.std.specs.Prelude.{IfOk}
 use Rattle.session_text.specs.Lines.{report_bytes}
 use Rattle.file_load.specs.LoadedFile.{report_of}
