@@ -28,7 +28,13 @@ rules = option_at (codes "fuel") ∷ option_at (codes "depth") ∷ option_at (co
     ∷ word_at (codes "mode") 1 ∷ word_at (codes "first") 2 ∷ word_at (codes "second") 3 ∷ []
 
 abbrev pub shape : Shape
-shape = record (new_shape (codes "elab_cli")) { rules = rules; no_binary_name = true; disable_help_flag = true; disable_help_subcommand = true; is_built = true }
+shape = record (new_shape (codes "elab_cli")) {
+  rules = rules;
+  no_binary_name = true;
+  disable_help_flag = true;
+  disable_help_subcommand = true;
+  is_built = true;
+}
 
 pub is_built : built app ≡ record { top = shape; subs = [] }
 is_built = refl
@@ -100,14 +106,16 @@ word_id (suc (suc n)) = codes "second"
 abbrev pub place_rule : List Text → Rule
 place_rule left = word_at (word_id (length left)) (suc (length left))
 
-pub place_free : (fuel depth order : Option Text) (left : List Text) (rows : List Row) → HasRows fuel depth order left rows → length left < 3
+pub place_free : (fuel depth order : Option Text) (left : List Text) (rows : List Row) → HasRows fuel depth order left rows
+    → length left < 3
     → has_row (word_id (length left)) rows ≡ false
 place_free fuel depth order [] rows h short = h.mode_row.1
 place_free fuel depth order (a ∷ []) rows h short = h.first_row.1
 place_free fuel depth order (a ∷ b ∷ []) rows h short = h.second_row.1
 place_free fuel depth order (a ∷ b ∷ c ∷ more) rows h short = absurd (omega arith)
 
-pub left_used : (w : Text) (fuel depth order : Option Text) (left : List Text) (rows : List Row) → HasRows fuel depth order left rows → length left < 3
+pub left_used : (w : Text) (fuel depth order : Option Text) (left : List Text) (rows : List Row) → HasRows fuel depth order left rows
+    → length left < 3
     → HasRows fuel depth order (left ++ w ∷ []) (used (place_rule left) (w ∷ []) rows)
 left_used w fuel depth order [] rows h short =
     let free = h.mode_row.1 in

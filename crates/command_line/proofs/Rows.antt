@@ -18,7 +18,8 @@ neither : (a b : Bool) → (a || b) ≡ false → (a ≡ false) × (b ≡ false)
 neither true b e = cc
 neither false b e = (refl, e)
 
-at_new : (id : Text) (change : Row → List Row) (missing rows : List Row) → has_row id rows ≡ false → at_row id change missing rows ≡ rows ++ missing
+at_new : (id : Text) (change : Row → List Row) (missing rows : List Row) → has_row id rows ≡ false
+    → at_row id change missing rows ≡ rows ++ missing
 at_new id change missing [] none = refl
 at_new id change missing (r ∷ rs) none =
     let parts : (bytes_eq r.id id ≡ false) × (has_row id rs ≡ false) = neither _ _ none in
@@ -27,7 +28,8 @@ at_new id change missing (r ∷ rs) none =
 pub used_new : (id : Text) (how : Reading) (v : Text) (rows : List Row) → has_row id rows ≡ false
     → with_values id how CommandLine (v ∷ []) (without id rows) ≡ rows ++ new_row id how v ∷ []
 used_new id how v rows none =
-    ap (with_values id how CommandLine (v ∷ [])) (at_new id (λ _. []) [] rows none ∙ append-nil rows) ∙ at_new id (more_values CommandLine (v ∷ [])) (new_row id how v ∷ []) rows none
+    ap (with_values id how CommandLine (v ∷ [])) (at_new id (λ _. []) [] rows none ∙ append-nil rows)
+    ∙ at_new id (more_values CommandLine (v ∷ [])) (new_row id how v ∷ []) rows none
 
 find_other : (p : Row → Bool) (rows : List Row) (r : Row) → p r ≡ false → find p (rows ++ r ∷ []) ≡ find p rows
 find_other p [] r miss = rw miss refl

@@ -17,7 +17,8 @@ pub sees_value : (s : Seen) (o : Option Parts) → SeesParts (Some s) o → Sees
 sees_value s None h = h
 sees_value s (Some q) h = (refl, h)
 
-pub sees_next_value : (next : Next) (limit : Limit) (word : List ℕ) (p : Parts) (s : Seen) → next ≡ Value limit → SeesParts (Some s) (with_value limit word p)
+pub sees_next_value : (next : Next) (limit : Limit) (word : List ℕ) (p : Parts) (s : Seen) → next ≡ Value limit
+    → SeesParts (Some s) (with_value limit word p)
     → SeesAfter (Some (Word, s)) (after_word next word p)
 sees_next_value next limit word p s e h = rw e (sees_value s (with_value limit word p) h)
 
@@ -32,7 +33,8 @@ asked words next p = option_and_then ask_from (read words next p)
 abbrev asked_after : List (List ℕ) → Option (Next × Parts) → Option Ask
 asked_after rest o = option_and_then ask_from (option_and_then (λ s. read rest s.0 s.1) o)
 
-pub refused_word : (word : List ℕ) (rest : List (List ℕ)) (next : Next) (p : Parts) → SeesAfter None (after_word next word p) → asked (word ∷ rest) next p ≡ None
+pub refused_word : (word : List ℕ) (rest : List (List ℕ)) (next : Next) (p : Parts) → SeesAfter None (after_word next word p)
+    → asked (word ∷ rest) next p ≡ None
 refused_word word rest next p h = go (after_word next word p) h
   where
     go : (o : Option (Next × Parts)) → SeesAfter None o → asked_after rest o ≡ None
@@ -62,21 +64,25 @@ some_ask p ask e = go (mode_of p.left) ∙ ap (λ (o : Option Ask). is_some o) e
 
 -- ---- the words that are left to read
 
-unrolled : {X : Type 0} (rest : List X) (word : X) → 1 ≤ length rest → word ≡ get_or rest 0 word → rest ≡ word ∷ take (length rest - 1) (drop 1 rest)
+unrolled : {X : Type 0} (rest : List X) (word : X) → 1 ≤ length rest → word ≡ get_or rest 0 word
+    → rest ≡ word ∷ take (length rest - 1) (drop 1 rest)
 unrolled [] word some is = absurd (omega arith)
 unrolled (x ∷ xs) word some is =
     let less : suc (length xs) - 1 ≡ length xs = omega arith in
     ap (λ y. y ∷ xs) (sym is) ∙ ap (λ ys. word ∷ ys) (sym (take-length xs) ∙ ap (λ n. take n xs) (sym less))
 
-pub seen_first : {X : Type 0} (f : X → List ℕ) (rest : List X) (word : X) (text : List ℕ) (next : Next) (s : Next × Seen) (q : Seen) (ask : Option Ask)
-    → 1 ≤ length rest → word ≡ get_or rest 0 word → text ≡ f word → Stands (map f rest) next q ask
-    → ((p : Parts) → Sees q p → SeesAfter (Some s) (after_word next text p)) → Stands (map f (take (length rest - 1) (drop 1 rest))) s.0 s.1 ask
+pub seen_first : {X : Type 0} (f : X → List ℕ) (rest : List X) (word : X) (text : List ℕ) (next : Next) (s : Next × Seen)
+    (q : Seen) (ask : Option Ask) → 1 ≤ length rest → word ≡ get_or rest 0 word → text ≡ f word → Stands (map f rest) next q ask
+    → ((p : Parts) → Sees q p → SeesAfter (Some s) (after_word next text p))
+    → Stands (map f (take (length rest - 1) (drop 1 rest))) s.0 s.1 ask
 seen_first f rest word text next s q ask some is same stands step =
     let whole : map f rest ≡ text ∷ map f (take (length rest - 1) (drop 1 rest)) =
     ap (map f) (unrolled rest word some is) ∙ ap (λ w. w ∷ map f (take (length rest - 1) (drop 1 rest))) (sym same) in
-    seen_word text _ next stands.parts s ask (step stands.parts stands.sees) (ap (λ ws. asked ws next stands.parts) (sym whole) ∙ stands.asks)
+    seen_word text _ next stands.parts s ask (step stands.parts stands.sees)
+    (ap (λ ws. asked ws next stands.parts) (sym whole) ∙ stands.asks)
 
-no_words : {X : Type 0} (f : X → List ℕ) (rest : List X) (next : Next) (q : Seen) (ask : Option Ask) → length rest < 1 → Stands (map f rest) next q ask
+no_words : {X : Type 0} (f : X → List ℕ) (rest : List X) (next : Next) (q : Seen) (ask : Option Ask) → length rest < 1
+    → Stands (map f rest) next q ask
     → Stands [] next q ask
 no_words f [] next q ask none stands = stands
 no_words f (x ∷ xs) next q ask none stands = absurd (omega arith)
@@ -87,7 +93,8 @@ at_last next p ask (inr e) asks = rw e at asks
 
 -- no word is left: the mode decides
 pub mode_decides : {X : Type 0} (f : X → List ℕ) (rest : List X) (next : Next) (q : Seen) (ask : Option Ask) (r : Bool) → length rest < 1
-    → Stands (map f rest) next q ask → (next ≡ Word) ⊎ (next ≡ Left) → ((words : List (List ℕ)) → IsLeft q.left words → r ≡ is_some (mode_of words))
+    → Stands (map f rest) next q ask → (next ≡ Word) ⊎ (next ≡ Left)
+    → ((words : List (List ℕ)) → IsLeft q.left words → r ≡ is_some (mode_of words))
     → r ≡ is_some ask
 mode_decides f rest next q ask r none stands at_word is_mode =
     let last = no_words f rest next q ask none stands in

@@ -90,12 +90,15 @@ abbrev taken : List Text → Text → Held → Held
 taken left w h = record { rows = (settled rules h).rows; pending = Some (word_id (length left), w ∷ []); skip = h.skip }
 
 to_place : (left : List Text) (t : Bool) (w : Text) (h : Held) → length left < 3
-    → to_positional rules (arg_by_index rules (suc (length left))) w (standing h t (suc (length left))) h ≡ standing (taken left w h) t (suc (length (left ++ w ∷ [])))
-to_place left t w h short = rw (by_index left short, and_false (is_pending (place_rule left) h.pending), next_place left w short, or_false t) refl
+    → to_positional rules (arg_by_index rules (suc (length left))) w (standing h t (suc (length left))) h
+    ≡ standing (taken left w h) t (suc (length (left ++ w ∷ [])))
+to_place left t w h short =
+    rw (by_index left short, and_false (is_pending (place_rule left) h.pending), next_place left w short, or_false t) refl
 
 taken_sound : (p : Parts) (w : Text) (h : Held) → length p.left < 3 → Sound p h → Sound (with_left w p) (taken p.left w h)
 taken_sound p w h short sound =
-    let free : has_row (word_id (length p.left)) (settled rules h).rows ≡ false = place_free p.fuel p.depth p.order p.left (settled rules h).rows sound.rows short in
+    let free : has_row (word_id (length p.left)) (settled rules h).rows ≡ false =
+    place_free p.fuel p.depth p.order p.left (settled rules h).rows sound.rows short in
     record {
       passes = rw (by_id p.left short, free) refl;
       rows = rw (by_id p.left short) (left_used w p.fuel p.depth p.order p.left (settled rules h).rows sound.rows short);
@@ -106,7 +109,8 @@ trailing_word : (p : Parts) (w : Text) (h : Held) → Sound p h → Reached (Som
 unfolding clap_on_literals
 trailing_word p w h sound fits =
     let short : length p.left < 3 = omega (arith, length-append p.left (w ∷ [])) in (
-      rw (by_index p.left short) (or_true (is_pending (place_rule p.left) h.pending && false) (settle_passes rules false h) sound.passes),
+      rw (by_index p.left short)
+          (or_true (is_pending (place_rule p.left) h.pending && false) (settle_passes rules false h) sound.passes),
       (taken p.left w h, to_place p.left true w h short, taken_sound p w h short sound),
     )
 
@@ -114,7 +118,8 @@ plain_word : (p : Parts) (w : Text) (h : Held) → IsPlain w → Sound p h → R
 unfolding clap_on_literals
 plain_word p w h is sound fits =
     let short : length p.left < 3 = omega (arith, length-append p.left (w ∷ [])) in (
-      rw (is.not_end, is.no_long, is.no_short, by_index p.left short) (or_true (is_pending (place_rule p.left) h.pending && false) (settle_passes rules false h) sound.passes),
+      rw (is.not_end, is.no_long, is.no_short, by_index p.left short)
+          (or_true (is_pending (place_rule p.left) h.pending && false) (settle_passes rules false h) sound.passes),
       (taken p.left w h, rw (is.not_end, is.no_long, is.no_short) (to_place p.left false w h short), taken_sound p w h short sound),
     )
 
@@ -127,7 +132,8 @@ end_word p h sound fits = (refl, (h, refl, sound))
 use_free : (id : Text) (v : Text) (rows : List Row) → has_row id rows ≡ false → use_passes false (option_at id) (v ∷ []) rows ≡ true
 use_free id v rows free = rw free refl
 
-limit_free : (limit : Limit) (p : Parts) (rows : List Row) → HasParts p rows → is_some (given limit p) ≡ false → has_row (limit_id limit) rows ≡ false
+limit_free : (limit : Limit) (p : Parts) (rows : List Row) → HasParts p rows → is_some (given limit p) ≡ false
+    → has_row (limit_id limit) rows ≡ false
 limit_free Fuel p rows h none = h.fuel_row.1 ∙ none
 limit_free Depth p rows h none = h.depth_row.1 ∙ none
 limit_free Order p rows h none = h.order_row.1 ∙ none
@@ -146,7 +152,8 @@ apart_word Order p h sound fits = (rw (sound.passes) refl, ((settled rules h).ro
 abbrev given_held : Limit → Text → Held → Held
 given_held limit v h = record { rows = used (option_at (limit_id limit)) (v ∷ []) (settled rules h).rows; pending = None; skip = h.skip }
 
-given_sound : (limit : Limit) (v : Text) (p : Parts) (h : Held) → Sound p h → is_some (given limit p) ≡ false → Sound (with_given limit v p) (given_held limit v h)
+given_sound : (limit : Limit) (v : Text) (p : Parts) (h : Held) → Sound p h → is_some (given limit p) ≡ false
+    → Sound (with_given limit v p) (given_held limit v h)
 given_sound limit v p h sound none = record { passes = refl; rows = given_used limit v p (settled rules h).rows sound.rows none }
 
 joined_word : (limit : Limit) (v : Text) (p : Parts) (h : Held) → Sound p h → is_some (given limit p) ≡ false
@@ -166,7 +173,8 @@ joined_word Order v p h sound none fits =
 abbrev waited : Limit → Text → List Row → ℕ → Held
 waited limit v rows skip = record { rows = rows; pending = Some (limit_id limit, v ∷ []); skip = skip }
 
-value_word : (limit : Limit) (v : Text) (p : Parts) (rows : List Row) (skip : ℕ) → IsPlain v → HasParts p rows → is_some (given limit p) ≡ false
+value_word : (limit : Limit) (v : Text) (p : Parts) (rows : List Row) (skip : ℕ) → IsPlain v → HasParts p rows
+    → is_some (given limit p) ≡ false
     → Reached (Some (Word, with_given limit v p)) (waiting limit rows skip (place p)) v
 unfolding clap_on_literals
 value_word Fuel v p rows skip is has none fits = (
@@ -196,7 +204,8 @@ value_word Order v p rows skip is has none fits = (
 
 -- ---- one word
 
-with_limit : (limit : Limit) (v word : Text) (p : Parts) (w : Walk) → (is_some (given limit p) ≡ false → is_value limit v ≡ true → Reached (Some (Word, with_given limit v p)) w word)
+with_limit : (limit : Limit) (v word : Text) (p : Parts) (w : Walk)
+    → (is_some (given limit p) ≡ false → is_value limit v ≡ true → Reached (Some (Word, with_given limit v p)) w word)
     → Reached (option_map (λ q. (Word, q)) (with_value limit v p)) w word
 with_limit limit v word p w reached = go (not (is_some (given limit p)) && is_value limit v) refl
   where
@@ -214,22 +223,27 @@ with_limit limit v word p w reached = go (not (is_some (given limit p)) && is_va
 reached_at : (o : Option (Next × Parts)) (w : Walk) (word other : Text) → word ≡ other → Reached o w other → Reached o w word
 reached_at o w word other e h = subst (Reached o w) (sym e) h
 
-kind_word : (kind : Kind) (word : Text) (p : Parts) (h : Held) → IsOfKind kind word → Sound p h → Reached (after_kind kind word p) (standing h false (place p)) word
+kind_word : (kind : Kind) (word : Text) (p : Parts) (h : Held) → IsOfKind kind word → Sound p h
+    → Reached (after_kind kind word p) (standing h false (place p)) word
 kind_word ends word p h is sound = reached_at (Some (Left, p)) (standing h false (place p)) word (codes "--") is (end_word p h sound)
-kind_word (takes limit) word p h is sound = reached_at (Some (Value limit, p)) (standing h false (place p)) word (flag limit) is (apart_word limit p h sound)
+kind_word (takes limit) word p h is sound =
+    reached_at (Some (Value limit, p)) (standing h false (place p)) word (flag limit) is (apart_word limit p h sound)
 kind_word (gives limit v) word p h is sound =
     with_limit limit v word p (standing h false (place p))
-    (λ none _. reached_at (Some (Word, with_given limit v p)) (standing h false (place p)) word (flag limit ++ (61 ∷ v)) is (joined_word limit v p h sound none))
+    (λ none _. reached_at (Some (Word, with_given limit v p)) (standing h false (place p)) word (flag limit ++ (61 ∷ v)) is
+    (joined_word limit v p h sound none))
 kind_word plain word p h is sound = plain_word p word h (is_plain word is) sound
 kind_word refused word p h is sound = tt
 
 one_word : (next : Next) (word : Text) (p : Parts) (w : Walk) → State next p w → Reached (after_word next word p) w word
 one_word Word word p w (h, is, sound) =
     subst (λ (v : Walk). Reached (after_word Word word p) v word) (sym is) (kind_word (kind_of word) word p h (is_of_kind word) sound)
-one_word Left word p w (h, is, sound) = subst (λ (v : Walk). Reached (after_word Left word p) v word) (sym is) (trailing_word p word h sound)
+one_word Left word p w (h, is, sound) =
+    subst (λ (v : Walk). Reached (after_word Left word p) v word) (sym is) (trailing_word p word h sound)
 one_word (Value limit) word p w (rows, skip, is, has) =
     subst (λ (v : Walk). Reached (after_word (Value limit) word p) v word) (sym is)
-    (with_limit limit word word p (waiting limit rows skip (place p)) (λ none takes. value_word limit word p rows skip (is_plain word (value_is_plain limit word takes)) has none))
+    (with_limit limit word word p (waiting limit rows skip (place p))
+    (λ none takes. value_word limit word p rows skip (is_plain word (value_is_plain limit word takes)) has none))
 
 -- ---- all words
 
@@ -241,16 +255,19 @@ sound_at p q w h t is sound same =
     subst (λ (r : Parts). Sound r w.held) same (subst (λ (k : Held). Sound p k) (sym (ap (λ (v : Walk). v.held) is)) sound)
 
 -- the walk passes over all the words, and ends where what is held fits the parts
-pub walk_reads : (words : List Text) (next : Next) (p q : Parts) (w : Walk) → State next p w → read words next p ≡ Some q → length q.left ≤ 3 → Walked words q w
+pub walk_reads : (words : List Text) (next : Next) (p q : Parts) (w : Walk) → State next p w → read words next p ≡ Some q
+    → length q.left ≤ 3 → Walked words q w
 unfolding clap_on_literals
 walk_reads [] Word p q w (h, is, sound) e short = (refl, sound_at p q w h false is sound (same_parts p q e))
 walk_reads [] (Value limit) p q w state e short = cc
 walk_reads [] Left p q w (h, is, sound) e short = (refl, sound_at p q w h true is sound (same_parts p q e))
 walk_reads (word ∷ rest) next p q w state e short =
-    go (after_word next word p) (one_word next word p w state) (λ s after is. walk_reads rest s.0 s.1 q (walked rules [] w word) after is short) e
+    go (after_word next word p) (one_word next word p w state)
+    (λ s after is. walk_reads rest s.0 s.1 q (walked rules [] w word) after is short) e
   where
     go : (o : Option (Next × Parts)) → Reached o w word
-        → ((s : Next × Parts) → State s.0 s.1 (walked rules [] w word) → read rest s.0 s.1 ≡ Some q → Walked rest q (walked rules [] w word))
+        → ((s : Next × Parts) → State s.0 s.1 (walked rules [] w word) → read rest s.0 s.1 ≡ Some q
+        → Walked rest q (walked rules [] w word))
         → option_and_then (λ s. read rest s.0 s.1) o ≡ Some q → Walked (word ∷ rest) q w
     go None reached more e = cc
     go (Some s) reached more e =
@@ -271,8 +288,10 @@ with_none rows a none = go (has_row a.id rows)
 -- no argument has a default
 no_defaults : (rows : List Row) → fold with_default rows rules ≡ rows
 no_defaults rows =
-    with_none _ (word_at (codes "second") 3) refl ∙ with_none _ (word_at (codes "first") 2) refl ∙ with_none _ (word_at (codes "mode") 1) refl
-    ∙ with_none _ (option_at (codes "order")) refl ∙ with_none _ (option_at (codes "depth")) refl ∙ with_none rows (option_at (codes "fuel")) refl
+    with_none _ (word_at (codes "second") 3) refl ∙ with_none _ (word_at (codes "first") 2) refl
+    ∙ with_none _ (word_at (codes "mode") 1) refl
+    ∙ with_none _ (option_at (codes "order")) refl ∙ with_none _ (option_at (codes "depth")) refl
+    ∙ with_none rows (option_at (codes "fuel")) refl
 
 begins : State Word nothing (walk_from nothing_held)
 begins = (

@@ -36,12 +36,14 @@ named name = at_fuel (bytes_eq name (codes "--fuel")) refl
     at_order true e = same_text _ _ e
     at_order false e = tt
 
-    at_depth : (b : Bool) → bytes_eq name (codes "--depth") ≡ b → Named (cond b (Some Depth) (cond (bytes_eq name (codes "--order")) (Some Order) None)) name
+    at_depth : (b : Bool) → bytes_eq name (codes "--depth") ≡ b
+        → Named (cond b (Some Depth) (cond (bytes_eq name (codes "--order")) (Some Order) None)) name
     at_depth true e = same_text _ _ e
     at_depth false e = at_order (bytes_eq name (codes "--order")) refl
 
     at_fuel : (b : Bool) → bytes_eq name (codes "--fuel") ≡ b
-        → Named (cond b (Some Fuel) (cond (bytes_eq name (codes "--depth")) (Some Depth) (cond (bytes_eq name (codes "--order")) (Some Order) None))) name
+        → Named (cond b (Some Fuel) (cond (bytes_eq name (codes "--depth")) (Some Depth)
+        (cond (bytes_eq name (codes "--order")) (Some Order) None))) name
     at_fuel true e = same_text _ _ e
     at_fuel false e = at_depth (bytes_eq name (codes "--depth")) refl
 
@@ -62,7 +64,8 @@ some_place n l e = go (nat_lt n l) refl e
 
 at_equals : (word : List ℕ) → position_or_len is_equals word < length word → get_or word (position_or_len is_equals word) 0 ≡ 61
 at_equals word place =
-    let found : position is_equals word ≡ Some (position_or_len is_equals word) = rw (lt-ltb (position_or_len is_equals word) (length word) place) refl in
+    let found : position is_equals word ≡ Some (position_or_len is_equals word) =
+    rw (lt-ltb (position_or_len is_equals word) (length word) place) refl in
     let first = position-Some is_equals word (position_or_len is_equals word) 0 found in
     eqb-true _ _ first.1
 
@@ -83,8 +86,10 @@ option_word : (word : List ℕ) → IsOfKind (option_kind word) word
 option_word word = go (has_equals word) refl
   where
     go : (b : Bool) → has_equals word ≡ b
-        → IsOfKind (cond b (joined (limit_named (before_first is_equals word)) (after_first is_equals word)) (apart (limit_named word))) word
-    go true has = joined_kind _ (before_first is_equals word) (after_first is_equals word) word (split_word word has) (named (before_first is_equals word))
+        → IsOfKind (cond b (joined (limit_named (before_first is_equals word)) (after_first is_equals word))
+        (apart (limit_named word))) word
+    go true has = joined_kind _ (before_first is_equals word) (after_first is_equals word) word (split_word word has)
+        (named (before_first is_equals word))
     go false has = apart_kind _ word (named word)
 
 pub is_of_kind : (word : List ℕ) → IsOfKind (kind_of word) word

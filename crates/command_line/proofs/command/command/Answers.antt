@@ -19,7 +19,8 @@ returns c =
     let first_is : rule_of c.new-3.result ≡ new_rule (codes "first") = search rules in
     let second_is : rule_of c.new-4.result ≡ new_rule (codes "second") = search rules in
     let top_is : app_of c.disable_help_flag-top.result ≡ top_app =
-    ap app_of_fields (c.disable_help_flag-top.ensures ∙ ap (λ (f : Command-F Command). record f { disable_help_flag = true }) c.no_binary_name.ensures)
+    ap app_of_fields (c.disable_help_flag-top.ensures
+    ∙ ap (λ (f : Command-F Command). record f { disable_help_flag = true }) c.no_binary_name.ensures)
     ∙ ap with_settings c.new.ensures.app in
     let fuel_in = c.in_ok-arg.ensures.shape c.option.ensures.own ∙ ap₂ with_rule top_is fuel_is in
     let depth_in = c.in_ok-arg-2.ensures.shape c.option-2.ensures.own ∙ ap₂ with_rule fuel_in depth_is in
