@@ -1,5 +1,5 @@
 ghost use Rattle.std.specs.Prelude.{◌≡◌, None, Some, Err, IfOk, is_some, map, string_bytes, true};
-ghost use Rattle.clap.specs.Words.{found_of, first_value};
+ghost use Rattle.clap.specs.Words.{found_of};
 ghost use Rattle.command_line.specs.Ask.{AreInRange, ask_of, limits_of, mode_of};
 ghost use Rattle.command_line.specs.Command.{parts_in};
 ghost use Rattle.command_line.specs.Rule.{AreValues};
@@ -28,7 +28,7 @@ pub enum Mode {
     /// Commands, line by line.
     Session,
     /// The report of a text that is made from two numbers: the seed, and how many functions.
-    Gen(u64, u32),
+    Gen { seed: u64, count: u32 },
 }
 
 /// Why there is no answer to what the words ask for.
@@ -61,9 +61,10 @@ fn read_mode(alloc: Global, matches: &ArgMatches) -> Result<Mode, NoMemory>
     match (mode, first, second) {
         (Some("session"), None, _) => Ok(Mode::Session),
         (Some("check"), Some(name), None) => Ok(Mode::Check(Text::from_str(alloc, name)?)),
-        (Some("gen"), Some(seed), Some(count)) => {
-            Ok(Mode::Gen(value(seed), value(count) as u32))
-        }
+        (Some("gen"), Some(seed), Some(count)) => Ok(Mode::Gen {
+            seed: value(seed),
+            count: value(count) as u32,
+        }),
         _ => unreachable!(),
     }
 }

@@ -1,5 +1,5 @@
 ghost use Rattle.std.specs.Prelude.{◌≡◌, Some, IfErr, IfOk, is_some, map, string_bytes, true, false};
-ghost use Rattle.clap.specs.Words.{app_of, found_of, kind_of, new_rule, rule_of};
+ghost use Rattle.clap.specs.Words.{app_of, found_of, kind_of, rule_of};
 ghost use Rattle.command_line.specs.Ask.{ask_of};
 ghost use Rattle.command_line.specs.Command.{app, option_rule, parts_in};
 ghost use Rattle.command_line.specs.Rule.{nothing, read};

@@ -1,3 +1,5 @@
+use crate::number::{is_number_in, value};
+
 /// An option, which sets a limit.
 #[derive(Clone, Copy, Debug, PartialEq, Eq)]
 pub enum Limit {
@@ -68,14 +70,9 @@ impl Limit {
         ensures value { result ≡ limit_of self (option_map (λ t. t.now) text.entry) }
         ensures most { result ≤ most self }
     {
-        let Some(text) = text else {
-            return self.default();
-        };
-        let Some(n) = number_of(text) else {
-            unreachable!();
-        };
-        n
+        match text {
+            Some(text) => value(text),
+            None => self.default(),
+        }
     }
 }
-
-use crate::number::{is_number_in, number_of};

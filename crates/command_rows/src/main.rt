@@ -28,7 +28,7 @@ fn show_ask(rt: &impl Print, name: &str, ask: &Ask) -> io::Result<()> {
             print!(rt; "{name}: check {file:?}")?;
         }
         Mode::Session => print!(rt; "{name}: session")?,
-        Mode::Gen(seed, count) => print!(rt; "{name}: gen {seed} {count}")?,
+        Mode::Gen { seed, count } => print!(rt; "{name}: gen {seed} {count}")?,
     }
     let fuel = ask.limits.fuel;
     let depth = ask.limits.depth;

@@ -149,7 +149,7 @@ fn serve<F: Files, O: Sink>(alloc: Global, ask: Ask, files: &mut F, output: &mut
     let Ask { mode, limits } = ask;
     match mode {
         Mode::Check(name) => check(alloc, name.as_str(), limits, files, output),
-        Mode::Session | Mode::Gen(_, _) => usage(output),
+        Mode::Session | Mode::Gen { .. } => usage(output),
     }
 }
 
