@@ -1,4 +1,3 @@
 pub mod Status
-pub mod Ask
 pub mod Said
 pub mod Transcript

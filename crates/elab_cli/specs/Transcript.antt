@@ -5,8 +5,9 @@ use Rattle.std.specs.FinMap.{get}
 use Rattle.std.specs.Io.KnownBytes.{Appends}
 use Rattle.el_outside.specs.Causes.{Rose}
 use Rattle.el_outside.specs.Stored.{FileMap}
-use Rattle.elab_cli.specs.declared.words.Ask.{Ask}
-use Rattle.elab_cli.specs.declared.words.Ask.TheVariants.{Wrong, Check}
+use Rattle.command_line.specs.declared.ask.Ask.{Ask}
+use Rattle.command_line.specs.declared.ask.Mode.{Mode}
+use Rattle.command_line.specs.declared.ask.Mode.TheVariants.{Check, Session, Gen}
 use Rattle.session_text.specs.declared.report.Report.{Report}
 use Rattle.session_text.specs.Lines.{error_bytes, report_bytes}
 use Rattle.file_load.specs.Load.{HasVerdict, Verdict}
@@ -83,9 +84,9 @@ CheckAnswers files name old new Usage = ⊥
 CheckAnswers files name old new InputFault = ⊥
 CheckAnswers files name old new InputTooLong = ⊥
 
--- ---- wrong words
+-- ---- the usage line
 
--- what each status says of a call with words that ask for nothing
+-- what each status says of a call whose words ask for nothing that is built
 abbrev pub UsageAnswers : Option (List ℕ) → Option (List ℕ) → Status → Type 0
 UsageAnswers old new Usage = Appends old new usage_line
 UsageAnswers old new OutputFault = AppendsPart old new usage_line
@@ -100,10 +101,16 @@ UsageAnswers old new Missing = ⊥
 
 -- ---- every call
 
+-- the same of a call for a mode. The modes `session` and `gen` are not built
+abbrev pub ModeAnswers : Mode → Option FileMap → Option (List ℕ) → Option (List ℕ) → Status → Type 0
+ModeAnswers (Check name) files old new status = CheckAnswers files name old new status
+ModeAnswers Session files old new status = UsageAnswers old new status
+ModeAnswers (Gen seed count) files old new status = UsageAnswers old new status
+
 -- what each status says of the bytes that went out
-abbrev pub Answers : Ask → Option FileMap → Option (List ℕ) → Option (List ℕ) → Status → Type 0
-Answers Wrong files old new status = UsageAnswers old new status
-Answers (Check name) files old new status = CheckAnswers files name old new status
+abbrev pub Answers : Option Ask → Option FileMap → Option (List ℕ) → Option (List ℕ) → Status → Type 0
+Answers None files old new status = UsageAnswers old new status
+Answers (Some ask) files old new status = ModeAnswers ask.mode files old new status
 
 -- the counts of faults and misses of what was handed in
 pub record Counts : Type 0 where
@@ -133,9 +140,16 @@ pub record NothingFailed (old new : Counts) : Type 0 where
   pub output : ¬ (Rose old.output new.output)
 
 -- the statuses that come where no count rises
-abbrev pub EndsWell : Ask → Status → Type 0
-EndsWell Wrong Usage = ⊤
-EndsWell (Check name) Done = ⊤
-EndsWell (Check name) FileError = ⊤
-EndsWell ask NoMemory = ⊤
-EndsWell ask status = ⊥
+abbrev pub ModeEndsWell : Mode → Status → Type 0
+ModeEndsWell (Check name) Done = ⊤
+ModeEndsWell (Check name) FileError = ⊤
+ModeEndsWell Session Usage = ⊤
+ModeEndsWell (Gen seed count) Usage = ⊤
+ModeEndsWell mode NoMemory = ⊤
+ModeEndsWell mode status = ⊥
+
+abbrev pub EndsWell : Option Ask → Status → Type 0
+EndsWell None Usage = ⊤
+EndsWell None NoMemory = ⊤
+EndsWell None status = ⊥
+EndsWell (Some ask) status = ModeEndsWell ask.mode status

@@ -4,7 +4,6 @@
 
 mod program;
 mod status;
-mod words;
 
 use el_outside::{RealFiles, RealSink, RealSource};
 pub use program::run;

@@ -1,12 +1,12 @@
 ghost use Rattle.std.specs.Prelude.{◌≡◌, ◌≢◌, ◌≤◌, ◌<◌, map, string_bytes, length, OnOk, OnErr, IfOk, IsErrOf};
 ghost use Rattle.std.specs.Io.KnownBytes.{Appends};
 ghost use Rattle.el_outside.specs.Causes.{Rose};
-ghost use Rattle.elab_cli.specs.Ask.{ask_of};
-ghost use Rattle.elab_cli.specs.Transcript.{Answers, AppendsPart, Caused, CheckAnswers, EndsWell, NothingFailed, UsageAnswers, status_of_report};
+ghost use Rattle.command_line.specs.Ask.{ask_of};
+ghost use Rattle.elab_cli.specs.Transcript.{Answers, AppendsPart, Caused, CheckAnswers, EndsWell, ModeAnswers, NothingFailed, UsageAnswers, status_of_report};
 ghost use Rattle.elab_cli.specs.Said.{HasSaid, Sends, Tells};
 
 use crate::Status;
-use crate::words::{Ask, read_words};
+use command_line::{Ask, Mode, WordsError, read_words};
 use core_terms::Limits;
 use el_outside::{FileRead, Files, NoMemory, PutError, Sink, Source};
 use file_load::{Loaded, load};
@@ -15,13 +15,6 @@ use std::alloc::Global;
 
 /// The most bytes that a text may have.
 const LIMIT: u32 = 1_048_576;
-
-/// The limits of a load where the words name no others.
-const LIMITS: Limits = Limits {
-    fuel: 100_000,
-    depth: 1_000,
-    order: 0,
-};
 
 const USAGE: &str =
     "usage: elab_cli check NAME | session | gen SEED N; options --fuel N, --depth N, --order N\n";
@@ -121,7 +114,13 @@ fn tell<O: Sink>(alloc: Global, loaded: Loaded, output: &mut O) -> Status
 }
 
 /// Reads the file, loads it, and writes the report or the error.
-fn check<F: Files, O: Sink>(alloc: Global, name: &str, files: &mut F, output: &mut O) -> Status
+fn check<F: Files, O: Sink>(
+    alloc: Global,
+    name: &str,
+    limits: Limits,
+    files: &mut F,
+    output: &mut O,
+) -> Status
     ensures answers { CheckAnswers (F.stored files.old) name.now (O.written output.old) (O.written output.new) result }
     ensures files { F.stored files.new ≡ F.stored files.old }
     ensures fault { result ≡ Status.FilesFault → Rose (F.faults files.old) (F.faults files.new) }
@@ -130,12 +129,27 @@ fn check<F: Files, O: Sink>(alloc: Global, name: &str, files: &mut F, output: &m
 {
     match files.read(alloc, name, LIMIT) {
         FileRead::Bytes(text) => {
-            let loaded = load(alloc, text.as_slice(), LIMITS);
+            let loaded = load(alloc, text.as_slice(), limits);
             tell(alloc, loaded, output)
         }
         FileRead::Missing => Status::Missing,
         FileRead::Failed => Status::FilesFault,
         FileRead::NoMemory => Status::NoMemory,
+    }
+}
+
+/// Does what the words ask for, where that is built: `check` alone is.
+fn serve<F: Files, O: Sink>(alloc: Global, ask: Ask, files: &mut F, output: &mut O) -> Status
+    ensures answers { ModeAnswers ask.mode (F.stored files.old) (O.written output.old) (O.written output.new) result }
+    ensures files { F.stored files.new ≡ F.stored files.old }
+    ensures fault { result ≡ Status.FilesFault → Rose (F.faults files.old) (F.faults files.new) }
+    ensures missing { result ≡ Status.Missing → Rose (F.misses files.old) (F.misses files.new) }
+    ensures output { result ≡ Status.OutputFault → Rose (O.faults output.old) (O.faults output.new) }
+{
+    let Ask { mode, limits } = ask;
+    match mode {
+        Mode::Check(name) => check(alloc, name.as_str(), limits, files, output),
+        Mode::Session | Mode::Gen { .. } => usage(output),
     }
 }
 
@@ -167,11 +181,9 @@ pub fn run<F: Files, I: Source, O: Sink>(
     ensures files { F.stored files.new ≡ F.stored files.old }
     ensures input { input.new ≡ input.old }
 {
-    let Ok(ask) = read_words(alloc, words) else {
-        return Status::NoMemory;
-    };
-    match ask {
-        Ask::Wrong => usage(output),
-        Ask::Check(name) => check(alloc, name.as_str(), files, output),
+    match read_words(alloc, words) {
+        Ok(ask) => serve(alloc, ask, files, output),
+        Err(WordsError::Refused) => usage(output),
+        Err(WordsError::NoMemory) => Status::NoMemory,
     }
 }
