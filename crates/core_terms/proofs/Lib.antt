@@ -5,3 +5,5 @@ pub mod Turns
 pub mod Shifts
 pub mod Mapped
 pub mod SignatureGrowth
+pub mod Once
+pub mod ArgLists

@@ -1,7 +1,10 @@
+pub mod Lists
+pub mod Reach
 pub mod Node
 pub mod Pool
 pub mod Growth
 pub mod Signature
 pub mod Table
 pub mod Change
+pub mod Placed
 pub mod Shifted

@@ -5,6 +5,7 @@
 //! id stands for. Everything above works on ids, and reads in contracts as if it worked on trees.
 #![tactic(auto)]
 
+mod args;
 mod change;
 mod ids;
 mod names;
@@ -21,10 +22,10 @@ mod traversal;
 pub use ids::{ConId, DefId, FamId, FieldId, MetaId, NameId, TermId};
 pub use names::Names;
 pub use no_memory::NoMemory;
-pub use node::{Node, Parts};
-pub use pool::{Args, PoolMark, TermPool};
+pub use node::{Args, Node, Parts};
+pub use pool::{PoolMark, TermPool};
 pub use row::Row;
-pub use shifting::{shift, subst};
+pub use shifting::{fill, shift, subst, under};
 pub use signature::{CoreDecl, DefEntry, DefState, SigMark, Signature};
 pub use telescope::{Entry, Limits, Telescope};
 

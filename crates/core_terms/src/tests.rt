@@ -1,6 +1,6 @@
 use crate::{
-    CoreDecl, DefEntry, DefId, DefState, Entry, NameId, Names, Node, Row, Signature, Telescope,
-    TermPool, shift, subst,
+    ConId, CoreDecl, DefEntry, DefId, DefState, Entry, NameId, Names, Node, Row, Signature,
+    Telescope, TermPool, fill, shift, subst, under,
 };
 use core_rules::Flag;
 use std::test::Fail;
@@ -42,14 +42,19 @@ fn keeps_terms(rt: HostRuntime) -> Result<(), Fail> {
         cod: bound,
     };
     let whole = pool.add(pi)?;
-    let args = pool.add_args(&[whole, set])?;
-    assert_eq!(rt; pool.args(args), [whole, set].as_slice());
-    assert_eq!(rt; args.len(), 2);
+    let params = pool.add_args(&[whole, set])?;
+    let again = pool.add_args(&[whole, set])?;
+    assert_eq!(rt; params, again);
+    let items = pool.args(params)?;
+    assert_eq!(rt; items.as_slice(), [whole, set].as_slice());
+    let con = ConId::new(6);
+    let built = pool.add(Node::Con { con, params })?;
+    assert!(rt; pool.same_tree(built, built));
     let other = pool.copy()?;
     pool.cut(mark);
     assert_eq!(rt; pool.len(), 2);
     assert_eq!(rt; pool.node(set), Node::Sort(0));
-    assert_eq!(rt; other.len(), 3);
+    assert_eq!(rt; other.len(), 6);
     assert_eq!(rt; other.node(whole), pi);
     Ok(())
 }
@@ -179,5 +184,44 @@ fn changes_deep_terms(rt: HostRuntime) -> Result<(), Fail> {
     let moved = shift(rt.alloc(), &mut pool, term, 0, 7)?;
     assert_eq!(rt; pool.len(), before.wrapping_add(300_001));
     assert!(rt; moved != term);
+    Ok(())
+}
+
+/// By hand: in `con 4 (0, 2) 1` the items 7 and 8 stand for the variables 0 and 1.
+#[test]
+#[tactic(auto, using(crate::specs::Growth::growth))]
+fn puts_items(rt: HostRuntime) -> Result<(), Fail> {
+    let mut pool = TermPool::new(rt.alloc())?;
+    let zero = pool.add(Node::Var(0))?;
+    let two = pool.add(Node::Var(2))?;
+    let seven = pool.add(Node::Var(7))?;
+    let eight = pool.add(Node::Var(8))?;
+    let flag = Flag::Explicit;
+    let whole = pool.add(Node::App {
+        flag,
+        fun: zero,
+        arg: two,
+    })?;
+    let filled = fill(rt.alloc(), &mut pool, whole, &[seven, eight])?;
+    assert_eq!(rt;
+        pool.node(filled),
+        Node::App {
+            flag,
+            fun: seven,
+            arg: zero
+        }
+    );
+    let closed = under(rt.alloc(), &mut pool, whole, &[seven, eight])?;
+    let set = pool.add(Node::Sort(0))?;
+    assert_eq!(rt;
+        pool.node(closed),
+        Node::App {
+            flag,
+            fun: seven,
+            arg: set
+        }
+    );
+    // Closed terms stay, whatever is put for variables.
+    assert_eq!(rt; fill(rt.alloc(), &mut pool, set, &[seven])?, set);
     Ok(())
 }
