@@ -13,21 +13,15 @@ use Rattle.core_rules.specs.declared.Flag.TheVariants.{Explicit, Implicit}
 use Rattle.core_rules.specs.contracts.FlagPartialEq.TheImpl as flag
 use Rattle.core_terms.specs.declared.node.Node.{Node}
 use Rattle.core_terms.specs.declared.node.Node.TheVariants as N
-use Rattle.core_terms.specs.declared.node.Kept.{Kept}
 use Rattle.core_terms.specs.contracts.node.NodePartialEq.TheImpl as node
-use Rattle.core_terms.specs.contracts.node.KeptPartialEq.TheImpl as kept
 use Rattle.core_terms.specs.Lists.{items, list_one}
-use Rattle.core_terms.specs.Reach.{reach}
-use Rattle.core_terms.specs.Pool.{Pool, tree, node_tree, Below, IsArgs, MayFollow, AllFollow, trees_after, Extends, StandsFor, seen}
+use Rattle.core_terms.specs.Pool.{Pool, tree, tree_of, node_tree, Below, IsArgs, AllFollow, trees_after, Extends, StandsFor, seen}
 use Rattle.core_terms.specs.Growth.{Extends-refl, Extends-tree}
 use Rattle.core_terms.proofs.Trees.{is_at, length-trees, node_tree-same}
 use Rattle.core_terms.proofs.Seen.{seen-at, pushed, pushed-Extends}
 
 abbrev pub node_eq : Node → Node → Bool
 node_eq = node.eq-value.it
-
-abbrev pub kept_eq : Kept → Kept → Bool
-kept_eq = kept.eq-value.it
 
 flag_same : (b c : Flag) → flag.eq-value.it b c ≡ true → b ≡ c
 flag_same Explicit Explicit e = refl
@@ -60,56 +54,43 @@ node_same (N.Proj k a) (N.Proj l b) e = let h = and_parts _ _ e in cc (eqb-true 
 node_same (N.Meta k a) (N.Meta l b) e = let h = and_parts _ _ e in cc (eqb-true k l h.0, eqb-true a b h.1)
 node_same _ _ e = cc
 
-kept_is : (a b : Kept) → a.node ≡ b.node → a.reach ≡ b.reach → a ≡ b
-kept_is a b h k =
-    let kept : Node → ℕ → Kept = λ n r. record { node = n; reach = r } in
-    ap₂ kept h k
-
-kept_same : (a b : Kept) → kept_eq a b ≡ true → a ≡ b
-kept_same a b e = let h = and_parts _ _ e in kept_is a b (node_same a.node b.node h.0) (eqb-true a.reach b.reach h.1)
-
 -- an insert leaves the nodes, or puts the new one last
-grown : (ks ms : List Kept) (k : Kept) → ms ≡ insert_key kept_eq ks k → (ms ≡ ks) ⊎ (ms ≡ ks ++ k ∷ [])
-grown ks ms k e = by_test (list_any (kept_eq k) ks) refl
+pub grown : (ks ms : List Node) (k : Node) → ms ≡ insert_key node_eq ks k → (ms ≡ ks) ⊎ (ms ≡ ks ++ k ∷ [])
+grown ks ms k e = by_test (list_any (node_eq k) ks) refl
   where
-    by_test : (b : Bool) → list_any (kept_eq k) ks ≡ b → (ms ≡ ks) ⊎ (ms ≡ ks ++ k ∷ [])
+    by_test : (b : Bool) → list_any (node_eq k) ks ≡ b → (ms ≡ ks) ⊎ (ms ≡ ks ++ k ∷ [])
     by_test true h = inl (e ∙ ap (λ b. cond b ks (ks ++ k ∷ [])) h)
     by_test false h = inr (e ∙ ap (λ b. cond b ks (ks ++ k ∷ [])) h)
 
 -- what `add` says of the pool with the nodes ms
-pub record Adds (p : Pool) (n : Node) (t : ℕ) (ms : List Kept) : Type 0 where
+pub record Adds (p : Pool) (n : Node) (t : ℕ) (ms : List Node) : Type 0 where
   pub follow : AllFollow [] ms
   pub extends : Extends p (seen ms)
   pub stands : StandsFor (seen ms) t (node_tree (tree p) n)
 
-module _ (ks ms : List Kept) (t : ℕ) (k j : Kept) (h : AllFollow [] ks) (e : ms ≡ insert_key kept_eq ks k) (at : slice_get ms t ≡ Some j) (same : kept_eq k j ≡ true) where
-  adds : MayFollow (trees_after [] ks) k → Adds (seen ks) k.node t ms
+module _ (ks ms : List Node) (t : ℕ) (k j : Node) (h : AllFollow [] ks) (e : ms ≡ insert_key node_eq ks k) (at : slice_get ms t ≡ Some j) (same : node_eq k j ≡ true) where
+  pub adds : Below (tree (seen ks)) (length (seen ks).trees) k → Adds (seen ks) k t ms
   adds b = by_nodes (grown ks ms k e)
     where
-      stands : AllFollow [] ms → Extends (seen ks) (seen ms) → StandsFor (seen ms) t (node_tree (tree (seen ks)) k.node)
+      stands : AllFollow [] ms → Extends (seen ks) (seen ms) → StandsFor (seen ms) t (node_tree (tree (seen ks)) k)
       stands i x =
           let l : t < length (seen ms).trees = omega (arith, length-trees ms, slice_get_within ms t j at) in
-          let here : k ≡ get_or ms t k = kept_same k j same ∙ sym (get_or_from_slice_get ms t j k at) in
+          let here : k ≡ get_or ms t k = node_same k j same ∙ sym (get_or_from_slice_get ms t j k at) in
           record {
             within = l;
-            is = (seen-at ms (seen ms) t t k refl i l refl here).is ∙ sym (node_tree-same (tree (seen ks)) (tree (seen ms)) (length (seen ks).trees) (λ j m. sym (Extends-tree j x m)) k.node b.below);
+            is = (seen-at ms (seen ms) t t k refl i l refl here).is ∙ sym (node_tree-same (tree (seen ks)) (tree (seen ms)) (length (seen ks).trees) (λ j m. sym (Extends-tree j x m)) k b);
           }
 
-      all : AllFollow [] ms → Extends (seen ks) (seen ms) → Adds (seen ks) k.node t ms
+      all : AllFollow [] ms → Extends (seen ks) (seen ms) → Adds (seen ks) k t ms
       all i x = record { follow = i; extends = x; stands = stands i x }
 
-      by_nodes : (ms ≡ ks) ⊎ (ms ≡ ks ++ k ∷ []) → Adds (seen ks) k.node t ms
+      by_nodes : (ms ≡ ks) ⊎ (ms ≡ ks ++ k ∷ []) → Adds (seen ks) k t ms
       by_nodes (inl d) = all (subst (AllFollow []) (sym d) h) (subst (λ xs. Extends (seen ks) (seen xs)) (sym d) (Extends-refl (seen ks)))
       by_nodes (inr d) = all (subst (AllFollow []) (sym d) (pushed ks k h b)) (subst (λ xs. Extends (seen ks) (seen xs)) (sym d) (pushed-Extends ks k))
 
-  pub seen-adds : (p : Pool) → seen ks ≡ p → Below (tree p) (length p.trees) k.node → k.reach ≡ reach (node_tree (tree p) k.node) → Adds p k.node t ms
-  seen-adds p s b r =
-      subst (λ q. Below (tree q) (length q.trees) k.node → k.reach ≡ reach (node_tree (tree q) k.node) → Adds q k.node t ms) s
-      (λ b r. adds (record { below = b; reach = r })) b r
-
 -- ---- a second set with the same nodes
 
-none_of : (f : Kept → Bool) (d : Kept) (xs : List Kept) (i : ℕ) → i ≤ length xs → ((j : ℕ) → j < i → f (get_or xs j d) ≡ false) → list_any f (take i xs) ≡ false
+none_of : (f : Node → Bool) (d : Node) (xs : List Node) (i : ℕ) → i ≤ length xs → ((j : ℕ) → j < i → f (get_or xs j d) ≡ false) → list_any f (take i xs) ≡ false
 none_of f d xs zero l h = refl
 none_of f d [] (suc i) l h = absurd (omega arith)
 none_of f d (x ∷ xs) (suc i) l h =
@@ -117,20 +98,20 @@ none_of f d (x ∷ xs) (suc i) l h =
     let rest = none_of f d xs i (omega arith) (λ j m. h (suc j) (omega arith)) in
     cc
 
-pub inserted-next : (ks : List Kept) (i : ℕ) (k : Kept) → IsDistinct kept_eq ks → i < length ks → k ≡ get_or ks i k → insert_key kept_eq (take i ks) k ≡ take (i + 1) ks
+pub inserted-next : (ks : List Node) (i : ℕ) (k : Node) → IsDistinct node_eq ks → i < length ks → k ≡ get_or ks i k → insert_key node_eq (take i ks) k ≡ take (i + 1) ks
 inserted-next ks i k d l e =
-    ap (λ b. cond b (take i ks) (take i ks ++ k ∷ [])) (none_of (kept_eq k) k ks i (omega arith) earlier)
+    ap (λ b. cond b (take i ks) (take i ks ++ k ∷ [])) (none_of (node_eq k) k ks i (omega arith) earlier)
     ∙ (ap (λ x. take i ks ++ x ∷ []) e ∙ sym (take_more ks i k l))
   where
-    earlier : (j : ℕ) → j < i → kept_eq k (get_or ks j k) ≡ false
-    earlier j m = by_test (kept_eq k (get_or ks j k)) refl
+    earlier : (j : ℕ) → j < i → node_eq k (get_or ks j k) ≡ false
+    earlier j m = by_test (node_eq k (get_or ks j k)) refl
       where
-        by_test : (b : Bool) → kept_eq k (get_or ks j k) ≡ b → kept_eq k (get_or ks j k) ≡ false
+        by_test : (b : Bool) → node_eq k (get_or ks j k) ≡ b → node_eq k (get_or ks j k) ≡ false
         by_test false h = h
         by_test true h =
-            let s = kept_same k (get_or ks j k) h in
-            let apart = apart_from_distinct kept_eq ks j i k d m l in
-            absurd (false≢true (sym apart ∙ (ap₂ kept_eq (sym s) (sym e ∙ s) ∙ h)))
+            let s = node_same k (get_or ks j k) h in
+            let apart = apart_from_distinct node_eq ks j i k d m l in
+            absurd (false≢true (sym apart ∙ (ap₂ node_eq (sym s) (sym e ∙ s) ∙ h)))
 
 -- ---- one id for each tree
 
@@ -149,9 +130,6 @@ node_refl (N.App b s t) = and_from _ _ (flag_refl b) (and_from _ _ (eq-eqb s s r
 node_refl (N.Con k a) = and_from _ _ (eq-eqb k k refl) (eq-eqb a a refl)
 node_refl (N.Proj k a) = and_from _ _ (eq-eqb k k refl) (eq-eqb a a refl)
 node_refl (N.Meta k a) = and_from _ _ (eq-eqb k k refl) (eq-eqb a a refl)
-
-kept_refl : (k : Kept) → kept_eq k k ≡ true
-kept_refl k = and_from _ _ (node_refl k.node) (eq-eqb k.reach k.reach refl)
 
 -- nodes of one tree are one, where their parts with one tree are
 module _ (f : ℕ → Term) (t u : ℕ) (one : (i j : ℕ) → i < t → j < u → f i ≡ f j → i ≡ j) where
@@ -180,11 +158,11 @@ module _ (f : ℕ → Term) (t u : ℕ) (one : (i j : ℕ) → i < t → j < u �
   nodes_one (N.Meta m a) (N.Meta n b) h k e = let d : items (f a) ≡ items (f b) = cc in cc (args_one a b h k d)
   nodes_one _ _ h k e = cc
 
-module _ (ks : List Kept) (o : Kept) (h : AllFollow [] ks) (d : IsDistinct kept_eq ks) where
+module _ (ks : List Node) (o : Node) (h : AllFollow [] ks) (d : IsDistinct node_eq ks) where
   apart : (t u : ℕ) → t < u → u < length ks → get_or ks t o ≡ get_or ks u o → ⊥
   apart t u l b e =
-      let x = apart_from_distinct kept_eq ks t u o d l b in
-      false≢true (sym x ∙ (ap (λ y. kept_eq y (get_or ks u o)) e ∙ kept_refl (get_or ks u o)))
+      let x = apart_from_distinct node_eq ks t u o d l b in
+      false≢true (sym x ∙ (ap (λ y. node_eq y (get_or ks u o)) e ∙ node_refl (get_or ks u o)))
 
   one_below : (n t u : ℕ) → t < n → t < length ks → u < length ks → tree (seen ks) t ≡ tree (seen ks) u → t ≡ u
   one_below zero t u l a b e = absurd (omega arith)
@@ -194,7 +172,7 @@ module _ (ks : List Kept) (o : Kept) (h : AllFollow [] ks) (d : IsDistinct kept_
       same one =
           let x = is_at ks t o h a in
           let y = is_at ks u o h b in
-          kept_is (get_or ks t o) (get_or ks u o) (nodes_one (tree (seen ks)) t u one (get_or ks t o).node (get_or ks u o).node x.below y.below (sym x.is ∙ (e ∙ y.is))) (x.reach ∙ (ap reach e ∙ sym y.reach))
+          nodes_one (tree (seen ks)) t u one (get_or ks t o) (get_or ks u o) x.below y.below (sym x.is ∙ (e ∙ y.is))
 
       by_order : ((i j : ℕ) → i < t → j < u → tree (seen ks) i ≡ tree (seen ks) j → i ≡ j) → (t ≡ u) ⊎ ((t < u) ⊎ (u < t)) → t ≡ u
       by_order one (inl x) = x
@@ -205,7 +183,7 @@ module _ (ks : List Kept) (o : Kept) (h : AllFollow [] ks) (d : IsDistinct kept_
   one_id : (t u : ℕ) → t < length ks → u < length ks → tree (seen ks) t ≡ tree (seen ks) u → t ≡ u
   one_id t u a b e = one_below (suc t) t u (omega arith) a b e
 
-pub one_in : (ks : List Kept) (p : Pool) (t u : ℕ) → seen ks ≡ p → AllFollow [] ks → IsDistinct kept_eq ks → t < length p.trees → u < length p.trees → tree p t ≡ tree p u → t ≡ u
+pub one_in : (ks : List Node) (p : Pool) (t u : ℕ) → seen ks ≡ p → AllFollow [] ks → IsDistinct node_eq ks → t < length p.trees → u < length p.trees → tree p t ≡ tree p u → t ≡ u
 one_in ks p t u e h d =
     subst (λ q. t < length q.trees → u < length q.trees → tree q t ≡ tree q u → t ≡ u) e
-    (λ a b k. one_id ks (record { node = N.Var 0; reach = 1 }) h d t u (omega (arith, a, length-trees ks)) (omega (arith, b, length-trees ks)) k)
+    (λ a b k. one_id ks (N.Var 0) h d t u (omega (arith, a, length-trees ks)) (omega (arith, b, length-trees ks)) k)

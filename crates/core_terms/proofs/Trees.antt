@@ -4,13 +4,11 @@ use Rattle.std.proofs.Common.{zero, suc, refl, sym, ap, ◌∙◌, arith, length
 use Rattle.std.proofs.Math.Seq.{get_or-append_seam, take-append_seam, take-length}
 use Rattle.std.proofs.lemmas.List.{get_or_append_left}
 use Rattle.std.proofs.lemmas.Grind.{common_steps}
-use Rattle.core_rules.specs.Term.{Term, Terms, Sort, End, And}
+use Rattle.core_rules.specs.Term.{Term, Sort}
 use Rattle.core_terms.specs.declared.node.Node.{Node}
 use Rattle.core_terms.specs.declared.node.Node.TheVariants as N
-use Rattle.core_terms.specs.declared.node.Kept.{Kept}
-use Rattle.core_terms.specs.Lists.{list, items, IsList}
-use Rattle.core_terms.specs.Reach.{reach, reach_all}
-use Rattle.core_terms.specs.Pool.{tree_of, node_tree, IsArgs, Below, MayFollow, IsAt, trees_after, AllFollow}
+use Rattle.core_terms.specs.Lists.{IsList}
+use Rattle.core_terms.specs.Pool.{tree_of, node_tree, IsArgs, Below, IsAt, trees_after, AllFollow}
 
 -- ---- a node's tree is that of its parts
 
@@ -42,47 +40,38 @@ module _ (f g : ℕ → Term) (k : ℕ) (e : (i : ℕ) → i < k → f i ≡ g i
   Below-same (N.Proj c t) h = h
   Below-same (N.Meta m a) h = IsArgs-same a h
 
--- ---- its reach is that of its parts
-
-reach_list : (ts : Terms) → reach (list ts) ≡ reach_all ts
-reach_list End = refl
-reach_list (And t ts) = cc (reach_list ts)
-
-pub reach_items : (t : Term) → IsList t → reach t ≡ reach_all (items t)
-reach_items t h = ap reach h ∙ reach_list (items t)
-
 -- ---- the trees of a list of nodes
 
-pub trees_after-push : (ts : List Term) (ks : List Kept) (k : Kept) → trees_after ts (ks ++ k ∷ []) ≡ trees_after ts ks ++ node_tree (tree_of (trees_after ts ks)) k.node ∷ []
+pub trees_after-push : (ts : List Term) (ks : List Node) (k : Node) → trees_after ts (ks ++ k ∷ []) ≡ trees_after ts ks ++ node_tree (tree_of (trees_after ts ks)) k ∷ []
 trees_after-push ts [] k = refl
-trees_after-push ts (m ∷ ks) k = trees_after-push (ts ++ node_tree (tree_of ts) m.node ∷ []) ks k
+trees_after-push ts (m ∷ ks) k = trees_after-push (ts ++ node_tree (tree_of ts) m ∷ []) ks k
 
-trees_after-append : (ts : List Term) (ks ms : List Kept) → trees_after ts (ks ++ ms) ≡ trees_after (trees_after ts ks) ms
+trees_after-append : (ts : List Term) (ks ms : List Node) → trees_after ts (ks ++ ms) ≡ trees_after (trees_after ts ks) ms
 trees_after-append ts [] ms = refl
-trees_after-append ts (k ∷ ks) ms = trees_after-append (ts ++ node_tree (tree_of ts) k.node ∷ []) ks ms
+trees_after-append ts (k ∷ ks) ms = trees_after-append (ts ++ node_tree (tree_of ts) k ∷ []) ks ms
 
-length-trees_after : (ts : List Term) (ks : List Kept) → length (trees_after ts ks) ≡ length ts + length ks
+length-trees_after : (ts : List Term) (ks : List Node) → length (trees_after ts ks) ≡ length ts + length ks
 length-trees_after ts [] = omega arith
 length-trees_after ts (k ∷ ks) =
-    let v = node_tree (tree_of ts) k.node in
+    let v = node_tree (tree_of ts) k in
     let h = length-trees_after (ts ++ v ∷ []) ks in
     omega (arith, h, length-append ts (v ∷ []))
 
-pub length-trees : (ks : List Kept) → length (trees_after [] ks) ≡ length ks
+pub length-trees : (ks : List Node) → length (trees_after [] ks) ≡ length ks
 length-trees ks = omega (arith, length-trees_after [] ks)
 
 -- the first trees stay
-trees_after-first : (ts : List Term) (ks : List Kept) (i : ℕ) → i < length ts → get_or (trees_after ts ks) i (Sort 0) ≡ get_or ts i (Sort 0)
+pub trees_after-first : (ts : List Term) (ks : List Node) (i : ℕ) → i < length ts → get_or (trees_after ts ks) i (Sort 0) ≡ get_or ts i (Sort 0)
 trees_after-first ts [] i h = refl
 trees_after-first ts (k ∷ ks) i h =
-    let more = node_tree (tree_of ts) k.node ∷ [] in
+    let more = node_tree (tree_of ts) k ∷ [] in
     let l : i < length (ts ++ more) = omega (arith, length-append ts more) in
     trees_after-first (ts ++ more) ks i l ∙ get_or_append_left ts more (Sort 0) i h
 
-trees_after-take : (ts : List Term) (ks : List Kept) → take (length ts) (trees_after ts ks) ≡ ts
+trees_after-take : (ts : List Term) (ks : List Node) → take (length ts) (trees_after ts ks) ≡ ts
 trees_after-take ts [] = take-length ts
 trees_after-take ts (k ∷ ks) =
-    let v = node_tree (tree_of ts) k.node in
+    let v = node_tree (tree_of ts) k in
     let h = trees_after-take (ts ++ v ∷ []) ks in
     let l : length ts ≤ length (ts ++ v ∷ []) = omega (arith, length-append ts (v ∷ [])) in
     sym (take_le (length ts) (length (ts ++ v ∷ [])) (trees_after ts (k ∷ ks)) l) ∙ ap (take (length ts)) h ∙ take-append_seam ts (v ∷ [])
@@ -91,41 +80,40 @@ trees_after-take ts (k ∷ ks) =
     take_le a b xs l = grind (arith, common_steps)
 
 -- the first nodes give the first trees
-pub trees-first : (ks ms : List Kept) → take (length ks) (trees_after [] (ks ++ ms)) ≡ trees_after [] ks
+pub trees-first : (ks ms : List Node) → take (length ks) (trees_after [] (ks ++ ms)) ≡ trees_after [] ks
 trees-first ks ms =
     let l : length (trees_after [] ks) ≡ length ks = length-trees ks in
     rw (trees_after-append [] ks ms, ← l) (trees_after-take (trees_after [] ks) ms)
 
 -- ---- what holds of each node
 
-pub AllFollow-first : (ts : List Term) (ks ms : List Kept) → AllFollow ts (ks ++ ms) → AllFollow ts ks
+pub AllFollow-first : (ts : List Term) (ks ms : List Node) → AllFollow ts (ks ++ ms) → AllFollow ts ks
 AllFollow-first ts [] ms h = tt
-AllFollow-first ts (k ∷ ks) ms h = (h.0, AllFollow-first (ts ++ node_tree (tree_of ts) k.node ∷ []) ks ms h.1)
+AllFollow-first ts (k ∷ ks) ms h = (h.0, AllFollow-first (ts ++ node_tree (tree_of ts) k ∷ []) ks ms h.1)
 
-pub AllFollow-push : (ts : List Term) (ks : List Kept) (k : Kept) → AllFollow ts ks → MayFollow (trees_after ts ks) k → AllFollow ts (ks ++ k ∷ [])
+pub AllFollow-push : (ts : List Term) (ks : List Node) (k : Node) → AllFollow ts ks → Below (tree_of (trees_after ts ks)) (length (trees_after ts ks)) k → AllFollow ts (ks ++ k ∷ [])
 AllFollow-push ts [] k h b = (b, tt)
-AllFollow-push ts (m ∷ ks) k h b = (h.0, AllFollow-push (ts ++ node_tree (tree_of ts) m.node ∷ []) ks k h.1 b)
+AllFollow-push ts (m ∷ ks) k h b = (h.0, AllFollow-push (ts ++ node_tree (tree_of ts) m ∷ []) ks k h.1 b)
 
-at_first : (ts : List Term) (k : Kept) (ks : List Kept) → MayFollow ts k → IsAt (trees_after ts (k ∷ ks)) (length ts) k
+at_first : (ts : List Term) (k : Node) (ks : List Node) → Below (tree_of ts) (length ts) k → IsAt (trees_after ts (k ∷ ks)) (length ts) k
 at_first ts k ks h =
     let us = trees_after ts (k ∷ ks) in
-    let v = node_tree (tree_of ts) k.node in
+    let v = node_tree (tree_of ts) k in
     let n : length ts < length (ts ++ v ∷ []) = omega (arith, length-append ts (v ∷ [])) in
     let same : (i : ℕ) → i < length ts → tree_of ts i ≡ tree_of us i = λ i l. sym (trees_after-first ts (k ∷ ks) i l) in
     let here : tree_of us (length ts) ≡ v = trees_after-first (ts ++ v ∷ []) ks (length ts) n ∙ get_or-append_seam ts v [] (Sort 0) in
     record {
-      below = Below-same (tree_of ts) (tree_of us) (length ts) same k.node h.below;
-      is = here ∙ node_tree-same (tree_of ts) (tree_of us) (length ts) same k.node h.below;
-      reach = h.reach ∙ ap reach (sym here);
+      below = Below-same (tree_of ts) (tree_of us) (length ts) same k h;
+      is = here ∙ node_tree-same (tree_of ts) (tree_of us) (length ts) same k h;
     }
 
-at_each : (ts : List Term) (ks : List Kept) (j : ℕ) (d : Kept) → AllFollow ts ks → j < length ks → IsAt (trees_after ts ks) (length ts + j) (get_or ks j d)
+at_each : (ts : List Term) (ks : List Node) (j : ℕ) (d : Node) → AllFollow ts ks → j < length ks → IsAt (trees_after ts ks) (length ts + j) (get_or ks j d)
 at_each ts [] j d h l = absurd (omega arith)
 at_each ts (k ∷ ks) zero d h l = rw add-zero (at_first ts k ks h.0)
 at_each ts (k ∷ ks) (suc j) d h l =
-    let v = node_tree (tree_of ts) k.node in
+    let v = node_tree (tree_of ts) k in
     let e : length (ts ++ v ∷ []) + j ≡ length ts + suc j = omega (arith, length-append ts (v ∷ [])) in
     subst (λ i. IsAt (trees_after ts (k ∷ ks)) i (get_or ks j d)) e (at_each (ts ++ v ∷ []) ks j d h.1 (omega arith))
 
-pub is_at : (ks : List Kept) (j : ℕ) (d : Kept) → AllFollow [] ks → j < length ks → IsAt (trees_after [] ks) j (get_or ks j d)
+pub is_at : (ks : List Node) (j : ℕ) (d : Node) → AllFollow [] ks → j < length ks → IsAt (trees_after [] ks) j (get_or ks j d)
 is_at ks j d h l = let e : 0 + j ≡ j = omega arith in subst (λ i. IsAt (trees_after [] ks) i (get_or ks j d)) e (at_each [] ks j d h l)

@@ -1,5 +1,6 @@
 pub mod Lists
 pub mod Reach
+pub mod Measures
 pub mod Node
 pub mod Pool
 pub mod Growth

@@ -42,3 +42,15 @@ cell_of (Fam k) = None
 cell_of (Con k a) = None
 cell_of (Proj k t) = None
 cell_of (Meta m a) = None
+
+abbrev pub without_name : Node → Node
+without_name (Pi b x s t) = Pi b 0 s t
+without_name (Lam b x s t) = Lam b 0 s t
+without_name (App b t u) = App b t u
+without_name (Var i) = Var i
+without_name (Sort n) = Sort n
+without_name (Def k) = Def k
+without_name (Fam k) = Fam k
+without_name (Con k a) = Con k a
+without_name (Proj k t) = Proj k t
+without_name (Meta m a) = Meta m a

@@ -1,13 +1,13 @@
 -- What a pool is to its callers: the tree that each id stands for. An argument list is a tree too.
-use Rattle.std.specs.Prelude.{◌≡◌, ℕ, ◌<◌, List, [], ◌∷◌, ◌++◌, length, get_or, take, map, Option, Some, None, refl}
+use Rattle.std.specs.Prelude.{◌≡◌, ℕ, ◌<◌, ◌≤◌, ◌^◌, List, [], ◌∷◌, ◌++◌, length, get_or, take, map, Option, Some, None, refl}
 use Rattle.std.specs.Coded.{Coded, code_by, coded_list}
-use Rattle.core_rules.specs.Term.{Term, Terms, Var, Sort, Pi, Lam, App, Def, Fam, Con, Proj, Meta, End, And, from_list}
+use Rattle.core_rules.specs.Term.{Term, Terms, Var, Sort, Pi, Lam, App, Def, Fam, Con, Proj, Meta, End, And, from_list, nameless}
 use Rattle.core_rules.specs.Stored.{coded_term}
 use Rattle.core_terms.specs.declared.node.Node.{Node}
 use Rattle.core_terms.specs.declared.node.Node.TheVariants as N
-use Rattle.core_terms.specs.declared.node.Kept.{Kept}
+use Rattle.core_terms.specs.declared.measures.Known.{Known}
 use Rattle.core_terms.specs.Lists.{list, items, IsList}
-use Rattle.core_terms.specs.Reach.{reach}
+use Rattle.core_terms.specs.Measures.{IsMeasured, nothing_known}
 
 pub record Pool : Type 0 where
   -- what each id stands for
@@ -63,11 +63,6 @@ Below f n (N.Con k a) = IsArgs f n a
 Below f n (N.Proj k t) = t < n
 Below f n (N.Meta m a) = IsArgs f n a
 
--- a node may follow those of the trees ts, and its reach is that of its tree
-pub record MayFollow (ts : List Term) (k : Kept) : Type 0 where
-  pub below : Below (tree_of ts) (length ts) k.node
-  pub reach : k.reach ≡ reach (node_tree (tree_of ts) k.node)
-
 -- the item t and the list b are what the list a begins with, and the rest of it
 pub record IsCell (p : Pool) (a t b : ℕ) : Type 0 where
   pub is : args p a ≡ And (tree p t) (args p b)
@@ -78,29 +73,6 @@ abbrev pub IsFirst : Pool → ℕ → Option (ℕ × ℕ) → Type 0
 IsFirst p a None = args p a ≡ End
 IsFirst p a (Some r) = IsCell p a r.0 r.1
 
--- what is known of the node k at number i of the trees us
-pub record IsAt (us : List Term) (i : ℕ) (k : Kept) : Type 0 where
-  pub below : Below (tree_of us) i k.node
-  pub is : tree_of us i ≡ node_tree (tree_of us) k.node
-  pub reach : k.reach ≡ reach (tree_of us i)
-
--- the trees of nodes that stand behind those of the trees ts
-abbrev pub trees_after : List Term → List Kept → List Term
-trees_after ts [] = ts
-trees_after ts (k ∷ ks) = trees_after (ts ++ node_tree (tree_of ts) k.node ∷ []) ks
-
--- each of the nodes may follow those before it
-abbrev pub AllFollow : List Term → List Kept → Type 0
-AllFollow ts [] = Unit {0}
-AllFollow ts (k ∷ ks) = MayFollow ts k × AllFollow (ts ++ node_tree (tree_of ts) k.node ∷ []) ks
-
--- the pool that has these nodes
-abbrev pub seen : List Kept → Pool
-seen ks = record { trees = trees_after [] ks }
-
-abbrev pub no_terms : Pool
-no_terms = record { trees = [] }
-
 -- q has all that p has, at the same ids
 pub record Extends (p q : Pool) : Type 0 where
   pub trees : take (length p.trees) q.trees ≡ p.trees
@@ -109,6 +81,50 @@ pub record Extends (p q : Pool) : Type 0 where
 pub record StandsFor (p : Pool) (r : ℕ) (t : Term) : Type 0 where
   pub within : r < length p.trees
   pub is : tree p r ≡ t
+
+-- n is the node at number i of the trees us
+pub record IsAt (us : List Term) (i : ℕ) (n : Node) : Type 0 where
+  pub below : Below (tree_of us) i n
+  pub is : tree_of us i ≡ node_tree (tree_of us) n
+
+-- the trees of nodes that stand behind those of the trees ts
+abbrev pub trees_after : List Term → List Node → List Term
+trees_after ts [] = ts
+trees_after ts (n ∷ ns) = trees_after (ts ++ node_tree (tree_of ts) n ∷ []) ns
+
+-- the parts of each of the nodes stand before it
+abbrev pub AllFollow : List Term → List Node → Type 0
+AllFollow ts [] = Unit {0}
+AllFollow ts (n ∷ ns) = Below (tree_of ts) (length ts) n × AllFollow (ts ++ node_tree (tree_of ts) n ∷ []) ns
+
+-- the pool that has these nodes
+abbrev pub seen : List Node → Pool
+seen ns = record { trees = trees_after [] ns }
+
+-- k tells of the tree at number i of the trees us: its measures, and the id of the same term without names
+pub record IsKnown (us : List Term) (i : ℕ) (k : Known) : Type 0 where
+  pub measured : IsMeasured (tree_of us i) k.measures
+  pub within : k.class ≤ i
+  pub class : tree_of us k.class ≡ nameless (tree_of us i)
+
+-- what is known is true of each of the trees
+pub record AreKnown (us : List Term) (ks : List Known) : Type 0 where
+  pub at : (i : ℕ) → i < length ks → IsKnown us i (get_or ks i nothing_known)
+
+-- c is the id of the term t without names, where this is another term
+abbrev pub ClassOf : Pool → Term → Option ℕ → Type 0
+ClassOf p t None = nameless t ≡ t
+ClassOf p t (Some c) = StandsFor p c (nameless t)
+
+-- nodes, with what is known of each, are those of a pool
+pub record ArePool (ns : List Node) (ks : List Known) : Type 0 where
+  pub follow : AllFollow [] ns
+  pub few : length ns ≤ 2 ^ 27
+  pub count : length ks ≡ length ns
+  pub known : AreKnown (trees_after [] ns) ks
+
+abbrev pub no_terms : Pool
+no_terms = record { trees = [] }
 
 -- p cut to its first n ids
 abbrev pub cut_to : ℕ → Pool → Pool

@@ -8,6 +8,7 @@
 mod args;
 mod change;
 mod ids;
+mod measures;
 mod names;
 mod no_memory;
 mod node;
@@ -19,6 +20,7 @@ mod table;
 mod telescope;
 mod traversal;
 
+pub use measures::{MOST_LEVELS, MOST_NODES};
 pub use ids::{ConId, DefId, FamId, FieldId, MetaId, NameId, TermId};
 pub use names::Names;
 pub use no_memory::NoMemory;
@@ -29,5 +31,3 @@ pub use shifting::{fill, shift, subst, under};
 pub use signature::{CoreDecl, DefEntry, DefState, SigMark, Signature};
 pub use telescope::{Entry, Limits, Telescope};
 
-#[cfg(test)]
-mod tests;

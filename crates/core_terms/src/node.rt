@@ -1,5 +1,5 @@
 ghost use Rattle.std.specs.Prelude.{◌≡◌};
-ghost use Rattle.core_terms.specs.Node.{cell_of, parts_of, with_two};
+ghost use Rattle.core_terms.specs.Node.{cell_of, parts_of, with_two, without_name};
 
 use crate::ids::{ConId, DefId, FamId, FieldId, MetaId, NameId, TermId};
 use core_rules::Flag;
@@ -78,14 +78,6 @@ pub enum Node {
     },
 }
 
-/// A node as a pool keeps it, with what is asked of its term often.
-#[derive(Clone, Copy, PartialEq, Eq, Hash)]
-pub(crate) struct Kept {
-    pub(crate) node: Node,
-    /// The variables from here on do not occur in its term.
-    pub(crate) reach: u64,
-}
-
 /// What a node consists of.
 #[derive(Clone, Copy, Debug)]
 pub enum Parts {
@@ -129,6 +121,30 @@ impl Node {
         match *self {
             Node::App { fun, arg, .. } => Some((fun, Args::of(arg))),
             _ => None,
+        }
+    }
+
+    /// The node without its name.
+    pub(crate) fn without_name(&self) -> Node
+        ensures { result ≡ without_name self.now }
+    {
+        let name = NameId::new(0);
+        match *self {
+            Node::Pi { flag, dom, cod, .. } => Node::Pi {
+                flag,
+                name,
+                dom,
+                cod,
+            },
+            Node::Lam {
+                flag, dom, body, ..
+            } => Node::Lam {
+                flag,
+                name,
+                dom,
+                body,
+            },
+            _ => *self,
         }
     }
 

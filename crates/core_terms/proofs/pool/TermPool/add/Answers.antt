@@ -1,27 +1,47 @@
-use Rattle.std.proofs.Common.{sym, ◌∙◌, subst}
-use Rattle.core_terms.specs.Pool.{StandsFor, node_tree, tree, seen}
-use Rattle.core_terms.proofs.Once.{Adds, seen-adds}
+use Rattle.std.proofs.Common.{sym, ◌∙◌, ap, subst, ◌≡◌, length, IfOk}
+use Rattle.core_rules.specs.Term.{nameless}
+use Rattle.core_terms.specs.Measures.{IsMeasured}
+use Rattle.core_terms.specs.Pool.{Below, StandsFor, node_tree, tree, seen}
+use Rattle.core_terms.proofs.Measured.{nameless-IsMeasured, nameless_twice}
+use Rattle.core_terms.proofs.Plain.{Below-grows, node_tree-grows}
 use Rattle.core_terms.proofs.pool.TermPool.add.Goals as goal
-use Rattle.core_terms.proofs.pool.TermPool.add.Goals.{In_ok-at}
 
-added : (c : In_ok-at) → Adds c.args.self.now c.args.node c.in_ok-at.at c.insert_full.new.self.keys
-added c =
-    let s = c.in_ok-at.ensures.stored in
-    seen-adds c.self.inside.nodes.keys c.insert_full.new.self.keys c.in_ok-at.at (record { node = c.args.node; reach = c.node_reach-reach.result }) s.0 c.self.invariant c.in_ok-at.ensures.keys s.1 s.2
-    c.args.self.now c.self.view_is c.requires c.node_reach-reach.ensures
+pub keep-requires-2-clause-measured : goal.keep-requires-2-clause-measured
+keep-requires-2-clause-measured c =
+    subst (λ p. IsMeasured (node_tree (tree p) c.plain-plain.result) c.measured-measures.result) (sym c.self.view_is)
+    (subst (λ t. IsMeasured t c.measured-measures.result) (sym c.plain-plain.ensures.is)
+    (nameless-IsMeasured (node_tree (tree c.args.self.now) c.args.node) c.measured-measures.result c.measured-measures.ensures))
 
-pub invariant_of-self-in_default : goal.invariant_of-self-in_default
-invariant_of-self-in_default c = (added (goal.at.invariant_of-self-in_default c).In_ok-at).follow
+pub keep-requires-2-clause-class : goal.keep-requires-2-clause-class
+keep-requires-2-clause-class c =
+    subst (λ p. nameless (node_tree (tree p) c.plain-plain.result) ≡ node_tree (tree p) c.plain-plain.result) (sym c.self.view_is)
+    (ap nameless c.plain-plain.ensures.is ∙ (nameless_twice (node_tree (tree c.args.self.now) c.args.node) ∙ sym c.plain-plain.ensures.is))
 
-pub returns-in_default-clause-extends : goal.returns-in_default-clause-extends
-returns-in_default-clause-extends c = (added (goal.at.returns-in_default-clause-extends c).In_ok-at).extends
+pub keep-requires-3-clause-below : goal.keep-requires-3-clause-below
+keep-requires-3-clause-below c =
+    Below-grows (seen c.self.inside.nodes.keys) (seen c.keep-2.new.nodes.keys) c.keep-2.ensures.extends c.args.node
+    (subst (λ p. Below (tree p) (length p.trees) c.args.node) (sym c.self.view_is) c.requires)
 
-pub invariant_of-self-2 : goal.invariant_of-self-2
-invariant_of-self-2 c = (added (goal.at.invariant_of-self-2 c).In_ok-at).follow
+pub keep-requires-3-clause-measured : goal.keep-requires-3-clause-measured
+keep-requires-3-clause-measured c =
+    let p : seen c.self.inside.nodes.keys ≡ c.args.self.now = c.self.view_is in
+    let b : Below (tree (seen c.self.inside.nodes.keys)) (length (seen c.self.inside.nodes.keys).trees) c.args.node = subst (λ p. Below (tree p) (length p.trees) c.args.node) (sym p) c.requires in
+    subst (λ t. IsMeasured t c.measured-measures.result) (node_tree-grows (seen c.self.inside.nodes.keys) (seen c.keep-2.new.nodes.keys) c.keep-2.ensures.extends c.args.node b)
+    (subst (λ p. IsMeasured (node_tree (tree p) c.args.node) c.measured-measures.result) (sym p) c.measured-measures.ensures)
 
-pub returns-clause-extends : goal.returns-clause-extends
-returns-clause-extends c = (added (goal.at.returns-clause-extends c).In_ok-at).extends
+pub keep-requires-3-clause-class : goal.keep-requires-3-clause-class
+keep-requires-3-clause-class c =
+    let p : seen c.self.inside.nodes.keys ≡ c.args.self.now = c.self.view_is in
+    let b : Below (tree (seen c.self.inside.nodes.keys)) (length (seen c.self.inside.nodes.keys).trees) c.args.node = subst (λ p. Below (tree p) (length p.trees) c.args.node) (sym p) c.requires in
+    subst (λ t. StandsFor (seen c.keep-2.new.nodes.keys) c.in_ok-class.class (nameless t))
+    (node_tree-grows (seen c.self.inside.nodes.keys) (seen c.keep-2.new.nodes.keys) c.keep-2.ensures.extends c.args.node b)
+    (subst (StandsFor (seen c.keep-2.new.nodes.keys) c.in_ok-class.class)
+    (subst (λ p. node_tree (tree p) c.plain-plain.result ≡ nameless (node_tree (tree p) c.args.node)) (sym p) c.plain-plain.ensures.is) c.in_ok-class.ensures.stands)
 
 pub returns-clause-stands : goal.returns-clause-stands
 returns-clause-stands c =
-    subst (λ t. StandsFor (seen c.insert_full.new.self.keys) t (node_tree (tree c.args.self.now) c.args.node)) (sym (c.new.ensures ∙ c.in-Ok.ensures.1)) (added (goal.at.returns-clause-stands c).In_ok-at).stands
+    let p : seen c.self.inside.nodes.keys ≡ c.args.self.now = c.self.view_is in
+    let b : Below (tree (seen c.self.inside.nodes.keys)) (length (seen c.self.inside.nodes.keys).trees) c.args.node = subst (λ p. Below (tree p) (length p.trees) c.args.node) (sym p) c.requires in
+    let e : node_tree (tree (seen c.keep-2.new.nodes.keys)) c.args.node ≡ node_tree (tree c.args.self.now) c.args.node =
+    sym (node_tree-grows (seen c.self.inside.nodes.keys) (seen c.keep-2.new.nodes.keys) c.keep-2.ensures.extends c.args.node b) ∙ ap (λ p. node_tree (tree p) c.args.node) p in
+    subst (λ u. IfOk c.keep-3.result (λ t. StandsFor (seen c.keep-3.new.nodes.keys) t u)) e c.keep-3.ensures.stands
