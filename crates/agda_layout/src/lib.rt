@@ -7,8 +7,6 @@ mod laid;
 pub mod laws;
 mod layout;
 mod state;
-#[cfg(test)]
-mod tests;
 
 pub use laid::{Laid, LayoutError};
 pub use layout::lay_out;

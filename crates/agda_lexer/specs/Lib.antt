@@ -4,3 +4,4 @@ pub mod Pieces
 pub mod Tokens
 pub mod Found
 pub mod Laws
+pub mod Fixed

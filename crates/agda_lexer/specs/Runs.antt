@@ -3,6 +3,7 @@ use Rattle.std.specs.Prelude.{ℕ, ◌+◌, ◌-◌, ◌*◌, Bool, true, false,
 use Rattle.std.specs.Str.{bytes_eq, chars}
 use Rattle.std.specs.Char.{encode_utf8, is_ascii_digit, is_control}
 use Rattle.std.specs.List.{list_all, list_any}
+use Rattle.el_base.specs.Levels.{level_limit}
 use Rattle.agda_lexer.specs.declared.token.Word.TheVariants as word
 use Rattle.agda_lexer.specs.declared.token.Sym.TheVariants as symbol
 use Rattle.agda_lexer.specs.declared.token.TokenKind.{TokenKind}
@@ -112,7 +113,7 @@ is_refused run = list_all is_ascii_digit run || slice_index run 0 == 39 || list_
 -- ---- all runs
 
 abbrev pub or_name : List ℕ → Option ℕ → Result TokenKind LexKind
-or_name run (Some n) = if nat_lt 1000000 n then Err BadToken else Ok (SetLevel n)
+or_name run (Some n) = if nat_lt level_limit n then Err BadToken else Ok (SetLevel n)
 or_name run None = if is_refused run then Err BadToken else Ok Name
 
 abbrev pub or_level : List ℕ → Option TokenKind → Result TokenKind LexKind

@@ -8,8 +8,6 @@ mod lexer;
 mod piece;
 mod run;
 mod scan;
-#[cfg(test)]
-mod tests;
 mod token;
 
 pub use lexer::lex;

@@ -3,70 +3,92 @@ ghost use Rattle.std.specs.List.{list_all, list_any};
 ghost use Rattle.std.specs.Str.{bytes_eq, chars};
 ghost use Rattle.std.specs.Char.{is_ascii_digit};
 ghost use Rattle.agda_lexer.specs.Runs as spec;
+ghost use Rattle.agda_lexer.specs.Fixed.{fixed_kind};
 
 use crate::token::{LexKind, Sym, TokenKind, Word};
+use el_base::{LEVEL_LIMIT, Level};
 
-const FIXED_RUNS: [(&str, TokenKind); 49] = [
-    (":", TokenKind::Symbol(Sym::Colon)),
-    ("=", TokenKind::Symbol(Sym::Equals)),
-    ("→", TokenKind::Symbol(Sym::Arrow)),
-    ("->", TokenKind::Symbol(Sym::Arrow)),
-    ("λ", TokenKind::Symbol(Sym::Lambda)),
-    ("\\", TokenKind::Symbol(Sym::Lambda)),
-    ("∀", TokenKind::Symbol(Sym::All)),
-    ("forall", TokenKind::Symbol(Sym::All)),
-    ("|", TokenKind::Symbol(Sym::Bar)),
-    ("?", TokenKind::Hole),
-    ("_", TokenKind::Underscore),
-    ("abstract", TokenKind::Keyword(Word::Abstract)),
-    ("coinductive", TokenKind::Keyword(Word::Coinductive)),
-    ("constructor", TokenKind::Keyword(Word::Constructor)),
-    ("data", TokenKind::Keyword(Word::Data)),
-    ("do", TokenKind::Keyword(Word::Do)),
-    ("eta-equality", TokenKind::Keyword(Word::EtaEquality)),
-    ("field", TokenKind::Keyword(Word::Field)),
-    ("hiding", TokenKind::Keyword(Word::Hiding)),
-    ("import", TokenKind::Keyword(Word::Import)),
-    ("in", TokenKind::Keyword(Word::In)),
-    ("inductive", TokenKind::Keyword(Word::Inductive)),
-    ("infix", TokenKind::Keyword(Word::Infix)),
-    ("infixl", TokenKind::Keyword(Word::Infixl)),
-    ("infixr", TokenKind::Keyword(Word::Infixr)),
-    ("instance", TokenKind::Keyword(Word::Instance)),
-    ("let", TokenKind::Keyword(Word::Let)),
-    ("macro", TokenKind::Keyword(Word::Macro)),
-    ("module", TokenKind::Keyword(Word::Module)),
-    ("mutual", TokenKind::Keyword(Word::Mutual)),
-    ("no-eta-equality", TokenKind::Keyword(Word::NoEtaEquality)),
-    ("open", TokenKind::Keyword(Word::Open)),
-    ("overlap", TokenKind::Keyword(Word::Overlap)),
-    ("pattern", TokenKind::Keyword(Word::Pattern)),
-    ("postulate", TokenKind::Keyword(Word::Postulate)),
-    ("primitive", TokenKind::Keyword(Word::Primitive)),
-    ("private", TokenKind::Keyword(Word::Private)),
-    ("Prop", TokenKind::Keyword(Word::Prop)),
-    ("public", TokenKind::Keyword(Word::Public)),
-    ("quote", TokenKind::Keyword(Word::Quote)),
-    ("record", TokenKind::Keyword(Word::Record)),
-    ("renaming", TokenKind::Keyword(Word::Renaming)),
-    ("rewrite", TokenKind::Keyword(Word::Rewrite)),
-    ("syntax", TokenKind::Keyword(Word::Syntax)),
-    ("unquote", TokenKind::Keyword(Word::Unquote)),
-    ("using", TokenKind::Keyword(Word::Using)),
-    ("variable", TokenKind::Keyword(Word::Variable)),
-    ("where", TokenKind::Keyword(Word::Where)),
-    ("with", TokenKind::Keyword(Word::With)),
+/// A token that one run always is.
+#[derive(Clone, Copy)]
+enum Fixed {
+    Keyword(Word),
+    Symbol(Sym),
+    Hole,
+    Underscore,
+}
+
+impl Fixed {
+    fn kind(self) -> TokenKind
+        ensures { result ≡ fixed_kind self }
+    {
+        match self {
+            Fixed::Keyword(word) => TokenKind::Keyword(word),
+            Fixed::Symbol(symbol) => TokenKind::Symbol(symbol),
+            Fixed::Hole => TokenKind::Hole,
+            Fixed::Underscore => TokenKind::Underscore,
+        }
+    }
+}
+
+const FIXED_RUNS: [(&str, Fixed); 49] = [
+    (":", Fixed::Symbol(Sym::Colon)),
+    ("=", Fixed::Symbol(Sym::Equals)),
+    ("→", Fixed::Symbol(Sym::Arrow)),
+    ("->", Fixed::Symbol(Sym::Arrow)),
+    ("λ", Fixed::Symbol(Sym::Lambda)),
+    ("\\", Fixed::Symbol(Sym::Lambda)),
+    ("∀", Fixed::Symbol(Sym::All)),
+    ("forall", Fixed::Symbol(Sym::All)),
+    ("|", Fixed::Symbol(Sym::Bar)),
+    ("?", Fixed::Hole),
+    ("_", Fixed::Underscore),
+    ("abstract", Fixed::Keyword(Word::Abstract)),
+    ("coinductive", Fixed::Keyword(Word::Coinductive)),
+    ("constructor", Fixed::Keyword(Word::Constructor)),
+    ("data", Fixed::Keyword(Word::Data)),
+    ("do", Fixed::Keyword(Word::Do)),
+    ("eta-equality", Fixed::Keyword(Word::EtaEquality)),
+    ("field", Fixed::Keyword(Word::Field)),
+    ("hiding", Fixed::Keyword(Word::Hiding)),
+    ("import", Fixed::Keyword(Word::Import)),
+    ("in", Fixed::Keyword(Word::In)),
+    ("inductive", Fixed::Keyword(Word::Inductive)),
+    ("infix", Fixed::Keyword(Word::Infix)),
+    ("infixl", Fixed::Keyword(Word::Infixl)),
+    ("infixr", Fixed::Keyword(Word::Infixr)),
+    ("instance", Fixed::Keyword(Word::Instance)),
+    ("let", Fixed::Keyword(Word::Let)),
+    ("macro", Fixed::Keyword(Word::Macro)),
+    ("module", Fixed::Keyword(Word::Module)),
+    ("mutual", Fixed::Keyword(Word::Mutual)),
+    ("no-eta-equality", Fixed::Keyword(Word::NoEtaEquality)),
+    ("open", Fixed::Keyword(Word::Open)),
+    ("overlap", Fixed::Keyword(Word::Overlap)),
+    ("pattern", Fixed::Keyword(Word::Pattern)),
+    ("postulate", Fixed::Keyword(Word::Postulate)),
+    ("primitive", Fixed::Keyword(Word::Primitive)),
+    ("private", Fixed::Keyword(Word::Private)),
+    ("Prop", Fixed::Keyword(Word::Prop)),
+    ("public", Fixed::Keyword(Word::Public)),
+    ("quote", Fixed::Keyword(Word::Quote)),
+    ("record", Fixed::Keyword(Word::Record)),
+    ("renaming", Fixed::Keyword(Word::Renaming)),
+    ("rewrite", Fixed::Keyword(Word::Rewrite)),
+    ("syntax", Fixed::Keyword(Word::Syntax)),
+    ("unquote", Fixed::Keyword(Word::Unquote)),
+    ("using", Fixed::Keyword(Word::Using)),
+    ("variable", Fixed::Keyword(Word::Variable)),
+    ("where", Fixed::Keyword(Word::Where)),
+    ("with", Fixed::Keyword(Word::With)),
 ];
 
-const LEVEL_LIMIT: u32 = 1_000_000;
-
-/// What stands beside the word in the table.
-fn lookup(mut table: &[(&str, TokenKind)], word: &[u8]) -> Option<TokenKind>
-    ensures { result ≡ spec.lookup (map (λ k. (k.0.now, k.1)) table.entry.now) word.now }
+/// The token beside the word in the table.
+fn lookup(mut table: &[(&str, Fixed)], word: &[u8]) -> Option<TokenKind>
+    ensures { result ≡ spec.lookup (map (λ k. (k.0.now, fixed_kind k.1)) table.entry.now) word.now }
 {
     while let [entry, rest @ ..] = table {
         if entry.0.as_bytes() == word {
-            return Some(entry.1);
+            return Some(entry.1.kind());
         }
         table = rest;
     }
@@ -178,8 +200,10 @@ fn name_kind(word: &str) -> Result<TokenKind, LexKind>
     ensures { result ≡ spec.or_name word.now (spec.set_level word.now) }
 {
     match set_level(word) {
-        Some(n) if n > LEVEL_LIMIT => Err(LexKind::BadToken),
-        Some(n) => Ok(TokenKind::SetLevel(n)),
+        Some(n) => match Level::new(n) {
+            Some(level) => Ok(TokenKind::SetLevel(level)),
+            None => Err(LexKind::BadToken),
+        },
         None if is_refused(word) => Err(LexKind::BadToken),
         None => Ok(TokenKind::Name),
     }

@@ -1,3 +1,4 @@
+use el_base::Level;
 use el_outside::{Many, Pos, Span};
 use std::alloc::{AllocError, AllocFailed};
 
@@ -69,8 +70,8 @@ pub enum TokenKind {
     Qualified,
     Keyword(Word),
     Symbol(Sym),
-    /// `Set` and its level, which is at most 1,000,000; `Set` alone has level 0.
-    SetLevel(u32),
+    /// `Set` and its level; `Set` alone has level 0.
+    SetLevel(Level),
     /// `?`, or `{!` up to its `!}`.
     Hole,
     Underscore,

@@ -20,23 +20,3 @@ pub fn replace(alloc: Global, text: &str, span: Span, new: &str) -> Result<Strin
     replaced.push_str(after)?;
     Ok(replaced)
 }
-
-#[cfg(test)]
-mod tests {
-    use super::*;
-
-    #[test]
-    fn replaces(rt: HostRuntime) -> Result<(), NoMemory> {
-        let rows = [
-            (0, 1, "m", "m = λ"),
-            (4, 6, "s n", "f = s n"),
-            (6, 6, "!", "f = λ!"),
-            (0, 6, "", ""),
-        ];
-        for (start, end, new, wanted) in rows {
-            let text = replace(rt.alloc(), "f = λ", Span { start, end }, new)?;
-            assert_eq!(rt; text.as_str(), wanted);
-        }
-        Ok(())
-    }
-}

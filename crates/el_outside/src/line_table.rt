@@ -75,33 +75,3 @@ fn end_of(mut cursor: Cursor<'_>) -> Pos
     'walk: while cursor.next_char().is_some() {}
     cursor.pos()
 }
-
-#[cfg(test)]
-mod tests {
-    use super::*;
-
-    // Each character stands where the cursor finds it: a mark that begins the text is no column, a
-    // later one is; a tab and a carriage return are one each.
-    #[test]
-    fn finds_places(rt: HostRuntime) -> Result<(), NoMemory> {
-        let text = "\u{FEFF}a\tλ\r\n\n\u{FEFF}b";
-        let table = LineTable::new(rt.alloc(), text)?;
-        let places = [
-            (0, 1, 1),
-            (3, 1, 1),
-            (4, 1, 2),
-            (5, 1, 3),
-            (7, 1, 4),
-            (8, 1, 5),
-            (9, 2, 1),
-            (10, 3, 1),
-            (13, 3, 2),
-            (14, 3, 3),
-        ];
-        for (at, line, col) in places {
-            assert!(rt; text.is_char_boundary(at as usize), "at {at}");
-            assert_eq!(rt; table.pos(at), Pos { line, col }, "at {at}");
-        }
-        Ok(())
-    }
-}

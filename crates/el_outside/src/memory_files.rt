@@ -207,28 +207,3 @@ impl Files for MemoryFiles {
         self.files.write(name, bytes)
     }
 }
-
-#[cfg(test)]
-mod tests {
-    use super::*;
-
-    // The third of the counted calls, a write, fails; placing a file is no counted call.
-    #[test]
-    fn fails_as_planned(rt: HostRuntime) -> Result<(), NoMemory> {
-        let fails = Vec::from_slice(rt.alloc(), &[3])?;
-        let mut files = MemoryFiles::new(rt.alloc(), fails)?;
-        files.place("a", b"abc")?;
-        match files.read(rt.alloc(), "a", 1) {
-            FileRead::Bytes(bytes) => assert!(rt; bytes.as_slice() == b"ab".as_slice()),
-            other => assert!(rt; false, "{other:?}"),
-        }
-        assert_eq!(rt; files.write("b", b"d"), FileWrite::Done);
-        assert_eq!(rt; files.write("a", b"e"), FileWrite::Failed);
-        assert!(rt; matches!(files.read(rt.alloc(), "c", 1), FileRead::Missing));
-        assert_eq!(rt; files.write("a", b"f"), FileWrite::Done);
-        assert_eq!(rt; files.bytes("a"), Some(b"f".as_slice()));
-        assert_eq!(rt; files.bytes("b"), Some(b"d".as_slice()));
-        assert_eq!(rt; files.bytes("c"), None);
-        Ok(())
-    }
-}

@@ -127,20 +127,3 @@ impl Sink for MemorySink {
         self.sink.put(bytes)
     }
 }
-
-#[cfg(test)]
-mod tests {
-    use super::*;
-
-    // The second of three calls fails; the others take two bytes at most.
-    #[test]
-    fn fails_as_planned(rt: HostRuntime) -> Result<(), NoMemory> {
-        let fails = Vec::from_slice(rt.alloc(), &[2])?;
-        let mut sink = MemorySink::new(rt.alloc(), 2, fails)?;
-        assert_eq!(rt; sink.put(b"abc"), Ok(2));
-        assert_eq!(rt; sink.put(b"c"), Err(PutError::Failed));
-        assert_eq!(rt; sink.put(b"c"), Ok(1));
-        assert!(rt; sink.bytes() == b"abc".as_slice());
-        Ok(())
-    }
-}

@@ -108,23 +108,3 @@ impl Source for MemorySource {
         self.source.take(into)
     }
 }
-
-#[cfg(test)]
-mod tests {
-    use super::*;
-    use std::alloc::AllocError;
-
-    // The second of five calls fails; it leaves the bytes, of which each call gives two at most.
-    #[test]
-    fn fails_as_planned(rt: HostRuntime) -> Result<(), AllocError> {
-        let bytes = Vec::from_slice(rt.alloc(), b"abc")?;
-        let fails = Vec::from_slice(rt.alloc(), &[2])?;
-        let mut source = MemorySource::new(bytes, 2, fails);
-        let mut buffer = [0u8; 8];
-        for wanted in [Ok(2), Err(Failed), Ok(1), Ok(0), Ok(0)] {
-            assert_eq!(rt; source.take(&mut buffer), wanted);
-        }
-        assert!(rt; &buffer[..2] == b"cb".as_slice());
-        Ok(())
-    }
-}

@@ -83,28 +83,3 @@ impl<'r, R: FileSystem> Files for RealFiles<'r, R> {
         }
     }
 }
-
-#[cfg(test)]
-mod tests {
-    use super::*;
-
-    // A file is written and read, whole and cut behind the byte after the limit; a name that is not
-    // there is missing, and a folder fails.
-    #[test]
-    fn reads_and_writes(rt: HostRuntime) -> io::Result<()> {
-        let name = "el_outside_real_files.txt";
-        let mut files = RealFiles::new(&rt);
-        assert_eq!(rt; files.write(name, b"abcde"), FileWrite::Done);
-        for (limit, wanted) in [(9, "abcde"), (4, "abcde"), (3, "abcd"), (0, "a")] {
-            match files.read(rt.alloc(), name, limit) {
-                FileRead::Bytes(bytes) => assert!(rt; bytes.as_slice() == wanted.as_bytes()),
-                other => assert!(rt; false, "{other:?} at {limit}"),
-            }
-        }
-        fs::remove_file(&rt, name)?;
-        assert!(rt; matches!(files.read(rt.alloc(), name, 9), FileRead::Missing));
-        assert!(rt; matches!(files.read(rt.alloc(), ".", 9), FileRead::Failed));
-        assert_eq!(rt; files.write(".", b"a"), FileWrite::Failed);
-        Ok(())
-    }
-}

@@ -78,30 +78,3 @@ impl<W: Write> Sink for RealSink<W> {
         }
     }
 }
-
-#[cfg(test)]
-mod tests {
-    use super::*;
-    use std::{fs, io};
-
-    // What is put into a file is taken from it again. A file that is open for reading takes nothing,
-    // and a folder gives nothing.
-    #[test]
-    fn puts_and_takes(rt: HostRuntime) -> io::Result<()> {
-        let name = "el_outside_real_streams.txt";
-        let mut sink = RealSink::new(fs::create(&rt, name)?);
-        assert_eq!(rt; sink.put(b"abc"), Ok(3));
-        let mut source = RealSource::new(fs::open(&rt, name)?);
-        let mut buffer = [0u8; 2];
-        assert_eq!(rt; source.take(&mut buffer), Ok(2));
-        assert!(rt; &buffer == b"ab");
-        assert_eq!(rt; source.take(&mut buffer), Ok(1));
-        assert_eq!(rt; buffer[0], b'c');
-        assert_eq!(rt; source.take(&mut buffer), Ok(0));
-        let mut closed = RealSink::new(fs::open(&rt, name)?);
-        assert_eq!(rt; closed.put(b"a"), Err(PutError::Failed));
-        let mut folder = RealSource::new(fs::open(&rt, ".")?);
-        assert_eq!(rt; folder.take(&mut buffer), Err(Failed));
-        fs::remove_file(&rt, name)
-    }
-}

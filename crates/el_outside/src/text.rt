@@ -68,16 +68,3 @@ impl Text {
         self.inner.is_empty()
     }
 }
-
-#[cfg(test)]
-mod tests {
-    use super::*;
-
-    #[test]
-    fn copies(rt: HostRuntime) -> Result<(), NoMemory> {
-        let text = Text::from_str(rt.alloc(), "née")?.copy(rt.alloc())?;
-        assert_eq!(rt; text.as_str(), "née");
-        assert_eq!(rt; text.len(), 4);
-        Ok(())
-    }
-}

@@ -1,6 +1,7 @@
 ghost use Rattle.std.specs.Prelude.{◌≡◌};
 
 use crate::place::{Name, Place};
+use el_base::Level;
 use sqlite_items::{Boxed, Items};
 
 /// An expression. Parentheses leave no node: an application whose head is an application in parentheses is one
@@ -22,8 +23,8 @@ pub enum Expr {
     Name(Name),
     /// `R.f`.
     Qualified(Name),
-    /// `Set`, or `Set` with a level, which is at most 1,000,000.
-    SetLevel(Place, u32),
+    /// `Set` with its level; `Set` alone has level 0.
+    SetLevel(Place, Level),
     /// `?`, or `{! .. !}`.
     Hole(Place),
     /// `_`.

@@ -8,8 +8,6 @@ mod expr;
 mod nodes;
 mod pattern;
 mod place;
-#[cfg(test)]
-mod tests;
 
 pub use decl::{Clause, Decl, File, RecordItem, Signature};
 pub use equality::same;

