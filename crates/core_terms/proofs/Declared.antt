@@ -1,5 +1,5 @@
 -- The declarations of a signature, of those of each kind, as one is put to the end, taken from there or closed.
-use Rattle.std.specs.Prelude.{◌≡◌, ◌⊎◌, ℕ, ◌+◌, ◌-◌, ◌<◌, ◌≤◌, ◌^◌, List, [], ◌∷◌, ◌++◌, length, map, sum, take, get_or, slice_get, slice_set, Some, None, zero, suc, refl}
+use Rattle.std.specs.Prelude.{◌≡◌, ◌⊎◌, ℕ, ◌+◌, ◌-◌, ◌<◌, ◌≤◌, List, [], ◌∷◌, ◌++◌, length, map, sum, take, get_or, slice_get, slice_set, Some, zero, suc, refl}
 use Rattle.std.specs.List.{AllByRecursion}
 use Rattle.std.proofs.Common.{ap, ap₂, sym, ◌∙◌, arith, subst, inl, inr, length-append, append_assoc, append-nil}
 use Rattle.std.proofs.Math.Seq.{take-append_seam, get_or-append_seam}
@@ -8,14 +8,14 @@ use Rattle.std.proofs.lemmas.List.Sums.{sum_by-cons}
 use Rattle.el_base.proofs.Lists.{get_either, get_last, get_left}
 use Rattle.el_base.proofs.Throughout.{all-append, all-parts}
 use Rattle.std.proofs.lemmas.List.{map-append, length-map, take-append-le, get_or_append_left}
-use Rattle.core_rules.specs.Signature.{Signature, Decl, Postulate, Family, Open, Function, CoreClause, Tree, FamDecl, defs, fams, def_decl, fam_decl, con_counts, field_counts, con_place, field_place, cons_of, fields_of, numbers, places, ids_of}
+use Rattle.core_rules.specs.Signature.{Signature, Family, Open, Function, CoreClause, Tree, FamDecl, defs, fams, def_decl, fam_decl, con_counts, field_counts, con_place, field_place, cons_of, fields_of, numbers, places, ids_of}
 use Rattle.core_terms.specs.declared.signature.Kind.{Kind}
 use Rattle.core_terms.specs.declared.signature.Kind.TheVariants as K
 use Rattle.core_terms.specs.declared.signature.DefEntry.{DefEntry}
 use Rattle.core_terms.specs.declared.signature.DefState.{DefState}
 use Rattle.core_terms.specs.declared.signature.DefState.TheVariants as S
 use Rattle.core_terms.specs.declared.signature.FamEntry.{FamEntry}
-use Rattle.core_terms.specs.Signature.{entry_decl, state_decl, decl_of, fam_of, places_of, closed_at, closed_entry}
+use Rattle.core_terms.specs.Signature.{entry_decl, state_decl, fam_of, places_of, closed_at, closed_entry}
 use Rattle.core_terms.specs.Woven.{woven, def_count, fam_count, con_sizes, field_sizes, IsFam, HasIds, AreDeclared}
 
 -- ---- what is declared

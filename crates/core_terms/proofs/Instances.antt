@@ -1,5 +1,5 @@
 -- What is made of a node when solutions are put in.
-use Rattle.std.specs.Prelude.{◌≡◌, ◌⊎◌, ℕ, ◌<◌, List, [], ◌∷◌, length, Bool, true, false, ◌||◌, Option, Some, None, is_some, option_map, refl}
+use Rattle.std.specs.Prelude.{◌≡◌, ℕ, ◌<◌, List, [], ◌∷◌, length, Bool, true, false, ◌||◌, Option, Some, None, is_some, option_map, refl}
 use Rattle.std.proofs.Common.{sym, ap, ap₂, ◌∙◌, arith, subst, ⊎_elim}
 use Rattle.core_rules.specs.Term.{Term, Terms, Var, Sort, Pi, Lam, App, Def, Fam, Con, Proj, Meta, End, And, env_of, to_list, from_list}
 use Rattle.core_rules.specs.Substitution.{replace, replace_all, put_solution, under}
@@ -12,9 +12,9 @@ use Rattle.core_terms.specs.declared.node.Node.TheVariants as N
 use Rattle.core_terms.specs.Lists.{list, items, IsList, items_list}
 use Rattle.core_terms.specs.Measures.{has_meta, has_meta_in}
 use Rattle.core_terms.specs.Node.{with_two}
-use Rattle.core_terms.specs.Pool.{Pool, tree, args, node_tree, IsArgs, Below, Extends, StandsFor}
+use Rattle.core_terms.specs.Pool.{Pool, tree, args, node_tree, IsArgs, Below, Extends}
 use Rattle.core_terms.specs.Growth.{Extends-length, Extends-tree}
-use Rattle.core_terms.specs.Table.{Results, found, Puts}
+use Rattle.core_terms.specs.Table.{Results, Puts}
 use Rattle.core_terms.specs.Solutions.{solved_in, AreIn, IsInstance, AreInstances, IsInstance-stays, solution_or, wanted, is_solved}
 
 replace_list : (f : ℕ → Option Term) (ts : Terms) → replace f (list ts) ≡ list (replace_all f ts)

@@ -1,7 +1,7 @@
 -- What keeping one more node leaves of a pool: the nodes, and what is known of each.
-use Rattle.std.specs.Prelude.{◌≡◌, ◌⊎◌, ℕ, ◌+◌, ◌<◌, ◌≤◌, ◌^◌, List, [], ◌∷◌, ◌++◌, length, get_or, slice_get, take, Some, None, Option}
+use Rattle.std.specs.Prelude.{◌≡◌, ◌⊎◌, ℕ, ◌+◌, ◌<◌, ◌^◌, List, [], ◌∷◌, ◌++◌, length, get_or, take, Some, None, Option}
 use Rattle.std.specs.Option.{unwrap_or}
-use Rattle.std.proofs.Common.{refl, sym, ap, ◌∙◌, subst, inl, inr, ⊎_elim, arith, length-append, length-take, get_or-take}
+use Rattle.std.proofs.Common.{sym, ap, ◌∙◌, subst, inl, inr, ⊎_elim, arith, length-append, length-take, get_or-take}
 use Rattle.std.proofs.Math.Seq.{take-append_seam, take-length, get_or-append_seam}
 use Rattle.std.proofs.lemmas.List.{get_or_append_left, get_or_default}
 use Rattle.std.proofs.lemmas.Bool.{cases_order}
@@ -11,11 +11,11 @@ use Rattle.core_terms.specs.declared.node.Node.{Node}
 use Rattle.core_terms.specs.declared.measures.Measures.{Measures}
 use Rattle.core_terms.specs.declared.measures.Known.{Known}
 use Rattle.core_terms.specs.Measures.{IsMeasured, nothing_known}
-use Rattle.core_terms.specs.Pool.{Pool, tree, tree_of, node_tree, Below, AllFollow, AreKnown, ArePool, ClassOf, IsKnown, Extends, StandsFor, trees_after, seen}
-use Rattle.core_terms.specs.Growth.{Extends-length, Extends-refl, Extends-tree}
+use Rattle.core_terms.specs.Pool.{Pool, tree, tree_of, node_tree, Below, AllFollow, AreKnown, ArePool, ClassOf, IsKnown, Extends, trees_after, seen}
+use Rattle.core_terms.specs.Growth.{Extends-tree}
 use Rattle.core_terms.proofs.Trees.{length-trees, trees_after-push}
 use Rattle.core_terms.proofs.Seen.{cut_trees, pushed, pushed-Extends}
-use Rattle.core_terms.proofs.Once.{Adds, adds, grown, node_eq}
+use Rattle.core_terms.proofs.Once.{grown, node_eq}
 
 last-longer : {A : Type 0} (xs ys : List A) (x : A) → ys ≡ xs ++ x ∷ [] → length ys ≡ length xs + 1
 last-longer xs ys x e = ap length e ∙ length-append xs (x ∷ [])

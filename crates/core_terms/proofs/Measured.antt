@@ -1,10 +1,10 @@
 -- What a term without names measures, and what a list measures as its items.
-use Rattle.std.specs.Prelude.{◌≡◌, ℕ, ◌+◌, ◌≤◌, min, max, Bool, ◌||◌, refl}
-use Rattle.std.proofs.Common.{sym, ap, ◌∙◌, subst, arith}
+use Rattle.std.specs.Prelude.{◌≡◌, ℕ, min, refl}
+use Rattle.std.proofs.Common.{sym, ap, ◌∙◌}
 use Rattle.core_rules.specs.Term.{Term, Terms, Var, Sort, Pi, Lam, App, Def, Fam, Con, Proj, Meta, End, And, nameless, nameless_all, size, size_all, depth, depth_all}
 use Rattle.core_terms.specs.declared.measures.Extent.{Extent}
 use Rattle.core_terms.specs.declared.measures.Measures.{Measures}
-use Rattle.core_terms.specs.Lists.{list, items, IsList, items_list}
+use Rattle.core_terms.specs.Lists.{list, items, IsList}
 use Rattle.core_terms.specs.Reach.{reach, reach_all}
 use Rattle.core_terms.specs.Measures.{has_meta, has_meta_in, IsExtent, IsMeasured}
 

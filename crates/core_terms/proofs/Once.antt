@@ -15,7 +15,7 @@ use Rattle.core_terms.specs.declared.node.Node.{Node}
 use Rattle.core_terms.specs.declared.node.Node.TheVariants as N
 use Rattle.core_terms.specs.contracts.node.NodePartialEq.TheImpl as node
 use Rattle.core_terms.specs.Lists.{items, list_one}
-use Rattle.core_terms.specs.Pool.{Pool, tree, tree_of, node_tree, Below, IsArgs, AllFollow, trees_after, Extends, StandsFor, seen}
+use Rattle.core_terms.specs.Pool.{Pool, tree, node_tree, Below, IsArgs, AllFollow, Extends, StandsFor, seen}
 use Rattle.core_terms.specs.Growth.{Extends-refl, Extends-tree}
 use Rattle.core_terms.proofs.Trees.{is_at, length-trees, node_tree-same}
 use Rattle.core_terms.proofs.Seen.{seen-at, pushed, pushed-Extends}

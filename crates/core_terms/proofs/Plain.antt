@@ -1,5 +1,5 @@
 -- A node without names over parts without names, and a node as the pool grows.
-use Rattle.std.specs.Prelude.{◌≡◌, ℕ, ◌<◌, ◌≤◌, length, refl}
+use Rattle.std.specs.Prelude.{◌≡◌, ℕ, ◌<◌, ◌≤◌, length}
 use Rattle.std.proofs.Common.{sym, ap, ◌∙◌, arith, subst}
 use Rattle.core_rules.specs.Term.{Term, nameless, nameless_all}
 use Rattle.core_terms.specs.declared.node.Node.{Node}

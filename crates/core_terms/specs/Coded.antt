@@ -1,5 +1,5 @@
 -- The codes of the parts of declarations over ids.
-use Rattle.std.specs.Prelude.{◌≡◌, ℕ, List, refl}
+use Rattle.std.specs.Prelude.{ℕ, List, refl}
 use Rattle.std.specs.Coded.{Coded, code_by, coded_ℕ, coded_list, coded×}
 use base.Stored.{gnum, num}
 use Rattle.core_rules.specs.Signature.{Entry, CorePat, CorePats, Pat, AbsurdPat, NoPat, AndPat, Written, Without, Solved, Dot, CheckedLeft, ConDecl, Branch}

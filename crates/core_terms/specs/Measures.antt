@@ -1,5 +1,5 @@
 -- What a pool keeps of a term beside its node: how far it reaches, whether a metavariable stands in it, and how large it is.
-use Rattle.std.specs.Prelude.{◌≡◌, ℕ, ◌+◌, min, Bool, false, true, ◌||◌}
+use Rattle.std.specs.Prelude.{◌≡◌, ℕ, min, Bool, false, true, ◌||◌}
 use Rattle.core_rules.specs.Term.{Term, Terms, Var, Sort, Pi, Lam, App, Def, Fam, Con, Proj, Meta, End, And, size, size_all, depth, depth_all}
 use Rattle.core_terms.specs.declared.measures.Extent.{Extent}
 use Rattle.core_terms.specs.declared.measures.Measures.{Measures}

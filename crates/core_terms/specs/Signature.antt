@@ -1,5 +1,5 @@
 -- What declarations in code are to the rules: declarations over ids, which a pool makes declarations over trees.
-use Rattle.std.specs.Prelude.{◌≡◌, ℕ, ◌<◌, length, map, sum, List, [], ◌∷◌, Bool, false, Some, zero, suc}
+use Rattle.std.specs.Prelude.{◌≡◌, ℕ, ◌<◌, length, map, sum, List, [], ◌∷◌, false, Some, zero, suc}
 use Rattle.std.specs.List.{AllByRecursion}
 use Rattle.core_rules.specs.Term.{Term}
 use Rattle.core_rules.specs.Signature.{Decl, FamDecl, CoreClause, Tree, Postulate, Family, Open, Function, Signature, con_counts, field_counts, def_decl, numbers}

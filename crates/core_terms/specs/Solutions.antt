@@ -6,7 +6,7 @@ use Rattle.core_rules.specs.Substitution.{replace}
 use Rattle.core_rules.specs.BoundedLaws.{IsFull}
 use Rattle.core_terms.specs.declared.node.Node.{Node}
 use Rattle.core_terms.specs.declared.node.Node.TheVariants as N
-use Rattle.core_terms.specs.Pool.{Pool, tree, Extends, StandsFor}
+use Rattle.core_terms.specs.Pool.{Pool, tree, Extends}
 use Rattle.core_terms.specs.Growth.{Extends-length, Extends-tree, Extends-StandsFor}
 use Rattle.core_terms.specs.Table.{Results, found}
 

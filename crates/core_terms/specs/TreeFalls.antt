@@ -1,5 +1,5 @@
 -- The trees below a step are smaller than its own.
-use Rattle.std.specs.Prelude.{ℕ, ◌+◌, ◌≤◌, List, [], ◌∷◌}
+use Rattle.std.specs.Prelude.{ℕ, ◌≤◌, List, [], ◌∷◌}
 use Rattle.std.proofs.Common.{arith}
 use Rattle.core_terms.specs.declared.tree.Tree.TheInside.{Inside}
 use Rattle.core_terms.specs.declared.tree.Tree.TheDeep.{deep-Tree, deep-Step, deep-CoBranch, deep-ConBranch, deep-Way}

@@ -1,5 +1,5 @@
 -- The declarations of a signature in order, of those of each kind, and the places of constructors and fields.
-use Rattle.std.specs.Prelude.{◌≡◌, ℕ, ◌+◌, ◌≤◌, ◌<◌, ◌^◌, List, [], ◌∷◌, length, map, slice_get, Some}
+use Rattle.std.specs.Prelude.{◌≡◌, ℕ, ◌+◌, ◌<◌, ◌^◌, List, [], ◌∷◌, length, map, slice_get, Some}
 use Rattle.std.specs.List.{AllByRecursion}
 use Rattle.core_rules.specs.Signature.{Signature, Family, places, ids_of}
 use Rattle.core_terms.specs.declared.signature.Kind.{Kind}

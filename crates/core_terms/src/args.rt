@@ -5,10 +5,9 @@ ghost use Rattle.core_terms.specs.Pool.{Extends, IsArgs, IsFirst, StandsFor};
 ghost use Rattle.core_terms.specs.Pool.{args, list_of, tree};
 
 use crate::ids::TermId;
-use crate::NoMemory;
 use crate::node::{Args, Node};
 use crate::pool::TermPool;
-use crate::Row;
+use crate::{NoMemory, Row};
 use core_rules::Flag;
 
 impl TermPool {

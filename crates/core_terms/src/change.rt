@@ -3,8 +3,8 @@ ghost use Rattle.core_rules.specs.Term.{Term, Var};
 ghost use Rattle.core_terms.specs.Pool.{Pool, tree, Extends, StandsFor};
 ghost use Rattle.core_terms.specs.Change.{Keeps};
 
-use crate::ids::TermId;
 use crate::NoMemory;
+use crate::ids::TermId;
 use crate::node::Node;
 use crate::pool::TermPool;
 use std::alloc::Global;

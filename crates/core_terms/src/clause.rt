@@ -70,8 +70,12 @@ impl Model for CheckedLeft {
     ghost coded = { coded_left_ids };
 
     ghost view = { λ l. record {
-        context = l.context; pats = pats_of l.pats; ty = l.ty;
-        named = l.named; dots = l.dots; inserted = l.inserted
+      context = l.context;
+      pats = pats_of l.pats;
+      ty = l.ty;
+      named = l.named;
+      dots = l.dots;
+      inserted = l.inserted;
     } };
 }
 

@@ -24,19 +24,18 @@ mod telescope;
 mod traversal;
 mod tree;
 
-pub use measures::{MOST_LEVELS, MOST_NODES};
-pub use ids::{ConId, DefId, FamId, FieldId, MetaId, NameId, TermId};
 pub use clause::{CheckedLeft, ConDecl, CoreClause, Dot, Solved};
-pub use pattern::{Braces, CorePat, Origin, PatShape};
-pub use tree::{Branch, CoBranch, ConBranch, Step, Tree, Way};
 pub use count::{Count, count_nodes};
-pub use instance::{instantiate, same_term};
-pub use names::Names;
-pub use solutions::{NoSolutions, Solutions};
 pub use el_base::{Many as Row, NoMemory};
+pub use ids::{ConId, DefId, FamId, FieldId, MetaId, NameId, TermId};
+pub use instance::{instantiate, same_term};
+pub use measures::{MOST_LEVELS, MOST_NODES};
+pub use names::Names;
 pub use node::{Args, Node, Parts};
+pub use pattern::{Braces, CorePat, Origin, PatShape};
 pub use pool::{PoolMark, TermPool};
 pub use shifting::{fill, shift, subst, under};
 pub use signature::{CoreDecl, DefEntry, DefState, FamEntry, SigMark, Signature};
+pub use solutions::{NoSolutions, Solutions};
 pub use telescope::{Entry, Limits, Telescope};
-
+pub use tree::{Branch, CoBranch, ConBranch, Step, Tree, Way};

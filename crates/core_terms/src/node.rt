@@ -137,7 +137,10 @@ impl Node {
                 cod,
             },
             Node::Lam {
-                flag, dom, body, ..
+                flag,
+                dom,
+                body,
+                ..
             } => Node::Lam {
                 flag,
                 name,

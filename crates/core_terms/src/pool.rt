@@ -5,9 +5,9 @@ ghost use Rattle.core_terms.specs.Reach.{reach};
 ghost use Rattle.core_terms.specs.Pool.{ArePool, Below, ClassOf, Extends, IsAt, IsKnown, StandsFor};
 ghost use Rattle.core_terms.specs.Pool.{cut_to, no_terms, node_tree, seen, tree};
 
+use crate::NoMemory;
 use crate::ids::TermId;
 use crate::measures::{Known, Measures};
-use crate::NoMemory;
 use crate::node::{Node, Parts};
 use indexmap::IndexSet;
 use std::alloc::Global;
@@ -94,7 +94,13 @@ impl TermPool {
             return keep(&mut self.nodes, &mut self.known, node, measures, None);
         }
         let class = keep(&mut self.nodes, &mut self.known, plain, measures, None)?;
-        keep(&mut self.nodes, &mut self.known, node, measures, Some(class))
+        keep(
+            &mut self.nodes,
+            &mut self.known,
+            node,
+            measures,
+            Some(class),
+        )
     }
 
     /// The same node without names, over the classes of its parts.

@@ -5,9 +5,9 @@ ghost use Rattle.core_terms.specs.Pool.{Pool, tree, Extends, StandsFor};
 ghost use Rattle.core_terms.specs.Placed.{filled, placed, placed_var, placed-stays};
 ghost use Rattle.core_terms.specs.Shifted.{AreShifted, IsReady, IsReady-stays};
 
+use crate::NoMemory;
 use crate::change::Change;
 use crate::ids::TermId;
-use crate::NoMemory;
 use crate::node::Node;
 use crate::pool::TermPool;
 use crate::table::Table;

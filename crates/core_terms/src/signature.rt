@@ -3,11 +3,11 @@ ghost use Rattle.core_rules.specs.Signature.{Family as FamilyDecl, Open as OpenD
 ghost use Rattle.core_terms.specs.Woven.{AreDeclared, woven};
 ghost use Rattle.core_terms.specs.Signature.{IsOpen, closed_at, closed_entry, decl_of, entry_decl, fam_of, con_total, field_total, places_of};
 
-use crate::{NoMemory, Row};
 use crate::clause::{ConDecl, CoreClause};
 use crate::ids::{ConId, DefId, FamId, FieldId, NameId, TermId};
 use crate::telescope::Telescope;
 use crate::tree::Tree;
+use crate::{NoMemory, Row};
 use std::alloc::Global;
 use std::marker::Model;
 
@@ -213,7 +213,12 @@ impl Signature {
     }
 
     /// Adds a family that has so many constructors and fields.
-    fn add_family(&mut self, decl: CoreDecl, con_count: usize, field_count: usize) -> Result<(), NoMemory>
+    fn add_family(
+        &mut self,
+        decl: CoreDecl,
+        con_count: usize,
+        field_count: usize,
+    ) -> Result<(), NoMemory>
         requires family { decl_of decl ≡ FamilyDecl (fam_of decl) }
         requires cons { con_count ≡ length (fam_of decl).cons }
         requires fields { field_count ≡ length (fam_of decl).fields }

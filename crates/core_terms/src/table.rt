@@ -1,8 +1,8 @@
 ghost use Rattle.std.specs.Prelude.{◌≡◌, ℕ, Some, None, OnOk};
 ghost use Rattle.core_terms.specs.Table.{found, Puts};
 
-use crate::ids::TermId;
 use crate::NoMemory;
+use crate::ids::TermId;
 use std::alloc::Global;
 use std::collections::HashMap;
 use std::marker::Model;

@@ -1,5 +1,5 @@
-use crate::ids::{NameId, TermId};
 use crate::Row;
+use crate::ids::{NameId, TermId};
 use core_rules::Flag;
 use std::marker::Model;
 

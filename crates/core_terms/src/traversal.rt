@@ -5,9 +5,9 @@ ghost use Rattle.core_terms.specs.Node.{with_two};
 ghost use Rattle.core_terms.specs.Change.{State, Turn};
 ghost use Rattle.core_terms.specs.declared.change.Task.TheVariants.{Make};
 
+use crate::NoMemory;
 use crate::change::{Change, Task};
 use crate::ids::TermId;
-use crate::NoMemory;
 use crate::node::{Node, Parts};
 use crate::pool::TermPool;
 use crate::table::Table;

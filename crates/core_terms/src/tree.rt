@@ -14,12 +14,28 @@ pub struct Tree {
 #[cycle(tree)]
 #[derive(Debug, Drop)]
 pub enum Step {
-    Leaf { body: TermId, clause: u32 },
-    Intro { rest: Box<Tree> },
-    Cosplit { branches: Vec<CoBranch> },
-    Split { at: u32, branches: Vec<ConBranch> },
-    RecordSplit { at: u32, fam: FamId, rest: Box<Tree> },
-    Absurd { at: u32 },
+    Leaf {
+        body: TermId,
+        clause: u32,
+    },
+    Intro {
+        rest: Box<Tree>,
+    },
+    Cosplit {
+        branches: Vec<CoBranch>,
+    },
+    Split {
+        at: u32,
+        branches: Vec<ConBranch>,
+    },
+    RecordSplit {
+        at: u32,
+        fam: FamId,
+        rest: Box<Tree>,
+    },
+    Absurd {
+        at: u32,
+    },
 }
 
 /// The branch of a field.

@@ -1,7 +1,7 @@
 use Rattle.std.proofs.Common.{IfOk, ℕ, ◌≡◌, ◌++◌, List, ap, sym, ◌∙◌, subst, map, reverse, take, drop, length, arith, rules}
 use Rattle.std.proofs.lemmas.Grind.{common_steps}
 use Rattle.el_base.proofs.Lists.{map-reverse}
-use Rattle.core_rules.specs.Term.{Term, Terms, to_list, from_list, env_of}
+use Rattle.core_rules.specs.Term.{env_of}
 use Rattle.core_rules.specs.Substitution.{under}
 use Rattle.core_terms.specs.Pool.{StandsFor, tree, args}
 use Rattle.core_terms.proofs.Instances.{to_from}

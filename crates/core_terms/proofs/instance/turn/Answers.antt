@@ -1,4 +1,4 @@
-use Rattle.std.proofs.Common.{refl, sym, ap, ◌∙◌, ◌≡◌, ◌<◌, ◌++◌, ◌∷◌, [], ℕ, Some, true, false, length, arith, subst}
+use Rattle.std.proofs.Common.{sym, ◌∙◌, ◌<◌, ℕ, length, arith, subst}
 use Rattle.std.specs.List.{AllByRecursion}
 use Rattle.std.proofs.lemmas.Result.{on_ok_weaker}
 use Rattle.el_base.proofs.Throughout.{all-append}
@@ -6,9 +6,8 @@ use Rattle.core_terms.specs.Pool.{Pool, Below, tree}
 use Rattle.core_terms.specs.declared.node.Node.{Node}
 use Rattle.core_terms.specs.Growth.{Extends-refl}
 use Rattle.core_terms.specs.Shifted.{within-stays}
-use Rattle.core_terms.specs.Solutions.{solved_in, wanted, IsInstance}
-use Rattle.core_terms.specs.Table.{found}
-use Rattle.core_terms.proofs.Instances.{instance_none, instance_leaf, instance_put, wanted_within}
+use Rattle.core_terms.specs.Solutions.{solved_in, IsInstance}
+use Rattle.core_terms.proofs.Instances.{instance_none, instance_put, wanted_within}
 use Rattle.core_terms.proofs.Plain.{Below-higher}
 use Rattle.core_terms.proofs.Shifts.{always}
 use Rattle.core_terms.proofs.instance.turn.Goals as goal

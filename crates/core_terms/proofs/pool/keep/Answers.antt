@@ -3,7 +3,7 @@ use Rattle.std.specs.Option.{unwrap_or}
 use Rattle.core_terms.specs.declared.measures.Known.{Known}
 use Rattle.core_terms.specs.Pool.{ArePool, StandsFor, node_tree, tree, seen}
 use Rattle.core_terms.proofs.Once.{Adds, adds}
-use Rattle.core_terms.proofs.Kept.{nodes-old, nodes-new, nodes-cut, pool-new}
+use Rattle.core_terms.proofs.Kept.{nodes-new, nodes-cut, pool-new}
 use Rattle.core_terms.proofs.pool.keep.Goals as goal
 use Rattle.core_terms.proofs.pool.keep.Goals.{In_ok-at}
 

@@ -1,4 +1,4 @@
-use Rattle.std.proofs.Common.{◌≡◌, ◌++◌, ◌∷◌, ◌-◌, [], ap, sym, ◌∙◌, subst, arith, length, take, ℕ, List}
+use Rattle.std.proofs.Common.{◌≡◌, ◌++◌, ◌∷◌, ◌-◌, [], ap, ◌∙◌, subst, arith, length, take, ℕ, List}
 use Rattle.std.proofs.lemmas.Bool.{false≢true}
 use Rattle.core_terms.specs.declared.signature.Kind.TheVariants as K
 use Rattle.core_terms.specs.Woven.{AreDeclared}

@@ -1,5 +1,5 @@
 use Rattle.std.proofs.Common.{◌∙◌, ap, ◌≡◌, ℕ, take, []}
-use Rattle.core_terms.specs.Pool.{seen, AllFollow, ArePool, cut_to}
+use Rattle.core_terms.specs.Pool.{seen, AllFollow, cut_to}
 use Rattle.core_terms.proofs.Seen.{seen-cut}
 use Rattle.core_terms.proofs.Kept.{pool-cut}
 use Rattle.core_terms.proofs.pool.TermPool.cut.Goals as goal

@@ -1,9 +1,9 @@
-use Rattle.std.proofs.Common.{◌≡◌, ◌++◌, ◌∷◌, [], ap, ap₂, sym, ◌∙◌, subst, arith, length, refl}
+use Rattle.std.proofs.Common.{◌≡◌, ◌++◌, ◌∷◌, [], ap, ap₂, ◌∙◌, arith, length, refl}
 use Rattle.core_rules.specs.Signature.{Family}
 use Rattle.core_terms.specs.declared.signature.FamEntry.{FamEntry}
 use Rattle.core_terms.specs.declared.signature.Kind.TheVariants as K
-use Rattle.core_terms.specs.Signature.{fam_of, places_of}
-use Rattle.core_terms.specs.Woven.{AreDeclared, woven}
+use Rattle.core_terms.specs.Signature.{fam_of}
+use Rattle.core_terms.specs.Woven.{woven}
 use Rattle.core_terms.proofs.Declared.{cut_back, declared-fam, declared-same, woven-fam}
 use Rattle.core_terms.proofs.signature.Signature.add_family.Goals as goal
 
@@ -16,11 +16,11 @@ invariant_of-self-in-Ok-put c =
     declared-same (c.self.inside.kinds.items ++ K.Fam ∷ []) c.put.new.kinds.items c.self.inside.defs.items (c.self.inside.fams.items ++ e ∷ []) c.put.new.items.items
     c.put_places.new.places.items c.put_places.new.places.items c.put_places-2.new.places.items c.put_places-2.new.places.items
     (declared-fam c.self.inside.kinds.items c.self.inside.defs.items c.self.inside.fams.items c.self.inside.cons.items c.self.inside.fields.items e c.args.con_count c.args.field_count c.len-first_con.result c.len-first_field.result c.new-fam.result
-      c.put_places.new.places.items c.put_places-2.new.places.items c.self.invariant c.requires.family c.requires.cons c.requires.fields ei ej ef
-      c.in_ok-con_ids.ensures c.in_ok-field_ids.ensures c.in_ok-put_places.ensures.ok c.in-Ok.ensures.ok
-      (omega (arith, c.if-count-ge-MOST.false, c.new-fam.ensures))
-      (omega (arith, c.if-con_count-len.false, c.len.ensures, c.len-first_con.ensures))
-      (omega (arith, c.if-field_count-len.false, c.len-else-con_count-len.ensures, c.len-first_field.ensures)))
+    c.put_places.new.places.items c.put_places-2.new.places.items c.self.invariant c.requires.family c.requires.cons c.requires.fields ei ej ef
+    c.in_ok-con_ids.ensures c.in_ok-field_ids.ensures c.in_ok-put_places.ensures.ok c.in-Ok.ensures.ok
+    (omega (arith, c.if-count-ge-MOST.false, c.new-fam.ensures))
+    (omega (arith, c.if-con_count-len.false, c.len.ensures, c.len-first_con.ensures))
+    (omega (arith, c.if-field_count-len.false, c.len-else-con_count-len.ensures, c.len-first_field.ensures)))
     c.in-Ok-put.ensures.kinds c.in-Ok-put.ensures.items refl refl
 
 pub invariant_of-self-in_default-put : goal.invariant_of-self-in_default-put
