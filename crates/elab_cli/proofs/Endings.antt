@@ -1,7 +1,7 @@
 -- The endings of `check NAME`.
-use Rattle.std.proofs.Common.{◌≡◌, ◌≤◌, ◌⊎◌, inl, inr, length, ℕ, List, [], ◌+◌, take, length-take, None, Some, Ok, Err, sym, subst, refl, arith}
+use Rattle.std.proofs.Common.{◌≡◌, ◌≤◌, ◌⊎◌, inl, inr, length, ℕ, List, [], ◌+◌, take, length-take, true, None, Some, Ok, Err, sym, ap, subst, refl, arith}
 use Rattle.std.specs.declared.option.Option.{Option}
-use Rattle.std.specs.Prelude.{IsSomeAnd, Result}
+use Rattle.std.specs.Prelude.{IfOk, IsSomeAnd, Result}
 use Rattle.std.proofs.lemmas.List.{take_all}
 use Rattle.std.proofs.lemmas.Grind.{common_steps}
 use Rattle.std.specs.FinMap.{get}
@@ -9,12 +9,18 @@ use Rattle.std.specs.Io.KnownBytes.{Appends}
 use Rattle.el_outside.specs.Stored.{FileMap, Gives}
 use Rattle.el_outside.specs.declared.files.FileRead.TheVariants as read
 use Rattle.source_tree.specs.declared.decl.File.{File}
-use Rattle.elab_cli.specs.declared.error.LoadError.{LoadError}
-use Rattle.elab_cli.specs.Load.{HasVerdict, IsInError, Reads, limit}
-use Rattle.elab_cli.specs.Said.{Tells}
-use Rattle.elab_cli.specs.Transcript.{IsJudged, CheckAnswers, AppendsPart, bytes_of, status_of}
-use Rattle.elab_cli.specs.declared.verdict.Verdict.{Verdict}
-use Rattle.elab_cli.specs.declared.verdict.Verdict.TheVariants.{Error, Complete}
+use Rattle.session_text.specs.declared.error.LoadError.{LoadError}
+use Rattle.session_text.specs.declared.report.Report.{Report}
+use Rattle.file_load.specs.declared.loaded_file.Loaded.{Loaded}
+use Rattle.file_load.specs.declared.loaded_file.Loaded.TheVariants as answer
+use Rattle.file_load.specs.Load.{HasVerdict, IsInError, IsLoaded, Made, Reads, Verdict, limit}
+use Rattle.file_load.specs.LoadedFile as loaded
+use Rattle.file_load.specs.LoadedFile.{made_of, report_of}
+use Rattle.file_load.specs.declared.loaded_file.LoadedFile.{LoadedFile}
+use Rattle.session_text.specs.Lines.{report_bytes}
+use Rattle.std.specs.declared.vec.Vec.{Vec}
+use Rattle.elab_cli.specs.Said.{IsOut, Sends, SendsAll, Tells, TellsVerdict}
+use Rattle.elab_cli.specs.Transcript.{IsJudged, CheckAnswers, AppendsPart, bytes_of, status_of, status_of_report}
 use Rattle.elab_cli.specs.declared.status.Status.{Status}
 use Rattle.elab_cli.specs.declared.status.Status.TheVariants as status
 
@@ -33,12 +39,12 @@ read_front all o (Reads.built p e) = subst (λ t. Reads t o) (whole all limit p.
 
 -- what is said of the front is said of the text
 verdict_front : (all : List ℕ) (v : Verdict) → HasVerdict (take (limit + 1) all) v → HasVerdict all v
-verdict_front all (Error e) (IsInError.unread r) = IsInError.unread (read_front all (Err e) r)
-verdict_front all (Error e) (IsInError.undeclared {file = file} r d) = IsInError.undeclared (read_front all (Ok file) r) d
-verdict_front all (Complete n) h = record { file = h.file; reads = read_front all (Ok h.file) h.reads; signature = h.signature; loads = h.loads; declarations = h.declarations; derivable = h.derivable }
+verdict_front all (Err e) (IsInError.unread r) = IsInError.unread (read_front all (Err e) r)
+verdict_front all (Err e) (IsInError.undeclared {file = file} r d) = IsInError.undeclared (read_front all (Ok file) r) d
+verdict_front all (Ok m) h = record { file = h.file; reads = read_front all (Ok h.file) h.reads; made = h.made; derivable = h.derivable }
 
 -- what is said of the bytes that a read gave is said of the text under the name
-pub judged_read : (files : Option FileMap) (name bytes : List ℕ) (v : Verdict) → Gives files name limit (read.Bytes bytes) → HasVerdict bytes v → IsJudged files name v
+judged_read : (files : Option FileMap) (name bytes : List ℕ) (v : Verdict) → Gives files name limit (read.Bytes bytes) → HasVerdict bytes v → IsJudged files name v
 judged_read None name bytes v g h = record { text = bytes; holds = tt; judged = h }
 judged_read (Some m) name bytes v g h = found (get m name) refl g
   where
@@ -46,15 +52,34 @@ judged_read (Some m) name bytes v g h = found (get m name) refl g
     found None e g = absurd g
     found (Some all) e g = record { text = all; holds = e; judged = verdict_front all v (subst (λ t. HasVerdict t v) g h) }
 
-wrote_all : (files : Option FileMap) (name : List ℕ) (old new : Option (List ℕ)) (v : Verdict) → IsJudged files name v → Appends old new (bytes_of v) → CheckAnswers files name old new (status_of v)
-wrote_all files name old new (Error e) j a = record { verdict = Error e; judged = j; meant = refl; appends = a }
-wrote_all files name old new (Complete n) j a = record { verdict = Complete n; judged = j; meant = refl; appends = a }
+-- every report is complete
+done : (text : List ℕ) (m : Made) → IsLoaded text m → status_of (Ok m) ≡ status.Done
+done text m h = let complete : m.report.complete ≡ true = ap (λ (r : Report). r.complete) h.made.report in rw complete refl
 
-pub told_answers : (files : Option FileMap) (name : List ℕ) (old new : Option (List ℕ)) (v : Verdict) (result : Status) → IsJudged files name v → Tells v old new result → CheckAnswers files name old new result
-told_answers files name old new v result j (inl t) = subst (CheckAnswers files name old new) (sym t.0) (wrote_all files name old new v j t.1)
-told_answers files name old new v result j (inr (inl t)) = subst (CheckAnswers files name old new) (sym t.0) (record { verdict = v; judged = j; part = t.1 })
-told_answers files name old new v result j (inr (inr t)) = subst (CheckAnswers files name old new) (sym t.0) (short t.1)
-  where
-    short : Appends old new [] ⊎ AppendsPart old new (bytes_of v) → CheckAnswers files name old new status.NoMemory
-    short (inl a) = inl a
-    short (inr p) = inr (record { verdict = v; judged = j; part = p })
+wrote_all : (files : Option FileMap) (name : List ℕ) (old new : Option (List ℕ)) (v : Verdict) → IsJudged files name v → Appends old new (bytes_of v) → CheckAnswers files name old new (status_of v)
+wrote_all files name old new (Err e) j a = record { verdict = Err e; judged = j; meant = refl; appends = a }
+wrote_all files name old new (Ok m) j a = subst (CheckAnswers files name old new) (sym (done j.text m j.judged)) (record { verdict = Ok m; judged = j; meant = done j.text m j.judged; appends = a })
+
+out_answers : (files : Option FileMap) (name : List ℕ) (old new : Option (List ℕ)) (result : Status) → IsOut old new result → CheckAnswers files name old new result
+out_answers files name old new result o = subst (CheckAnswers files name old new) (sym o.is) (inl o.nothing)
+
+sent_answers : (files : Option FileMap) (name : List ℕ) (old new : Option (List ℕ)) (v : Verdict) (result : Status) → IsJudged files name v → SendsAll (bytes_of v) (status_of v) old new result → CheckAnswers files name old new result
+sent_answers files name old new v result j (inl t) = subst (CheckAnswers files name old new) (sym t.0) (wrote_all files name old new v j t.1)
+sent_answers files name old new v result j (inr (inl t)) = subst (CheckAnswers files name old new) (sym t.0) (record { verdict = v; judged = j; part = t.1 })
+sent_answers files name old new v result j (inr (inr t)) = subst (CheckAnswers files name old new) (sym t.0) (inr (record { verdict = v; judged = j; part = t.1 }))
+
+verdict_answers : (files : Option FileMap) (name : List ℕ) (old new : Option (List ℕ)) (v : Verdict) (result : Status) → IsJudged files name v → TellsVerdict v old new result → CheckAnswers files name old new result
+verdict_answers files name old new v result j (inl t) = sent_answers files name old new v result j t
+verdict_answers files name old new v result j (inr o) = out_answers files name old new result o
+
+-- what is told of the bytes that a read gave is the answer of the call
+pub told_answers : (files : Option FileMap) (name bytes : List ℕ) (old new : Option (List ℕ)) (a : Loaded) (result : Status) → Gives files name limit (read.Bytes bytes) → loaded.Answers bytes a → Tells a old new result → CheckAnswers files name old new result
+told_answers files name bytes old new (answer.Error e) result g h t = verdict_answers files name old new (Err e) result (judged_read files name bytes (Err e) g h) t
+told_answers files name bytes old new (answer.Done f) result g h t = verdict_answers files name old new (Ok (made_of f)) result (judged_read files name bytes (Ok (made_of f)) g h.verdict) t
+told_answers files name bytes old new answer.NoMemory result g h t = out_answers files name old new result t
+
+-- the lines of a report, and how the program ends after them
+pub told_done : {A E : Type 0} (f : LoadedFile) (lines : Result (Vec ℕ A) E) (meant : Status) (old new : Option (List ℕ)) (result : Status) → IfOk lines (λ v. v.items ≡ report_bytes (report_of f)) → meant ≡ status_of_report (report_of f)
+    → Sends lines meant old new result → TellsVerdict (Ok (made_of f)) old new result
+told_done f (Ok v) meant old new result bytes is s = inl (subst (λ (ys : List ℕ). SendsAll ys (status_of_report (report_of f)) old new result) bytes (subst (λ (m : Status). SendsAll v.items m old new result) is s))
+told_done f (Err e) meant old new result bytes is s = inr s

@@ -1,12 +1,2 @@
-pub mod Accepted
-pub mod Equal
-pub mod Firsts
-pub mod Judging
-pub mod Inferring
-pub mod Sameness
 pub mod Endings
 pub mod Sent
-pub mod Translating
-pub mod Loading
-pub mod Unique
-pub mod TranslatedTypes

@@ -1,14 +1,4 @@
-pub mod Accept
-pub mod Equal
-pub mod Inferred
-pub mod Judged
-pub mod Same
 pub mod Status
-pub mod Translated
-pub mod Unbuilt
 pub mod Ask
-pub mod Load
-pub mod Stages
 pub mod Said
 pub mod Transcript
-pub mod Refused

@@ -1,19 +1,15 @@
 -- What the program writes and how it ends, by what the words ask for and by the files as they stood at the call.
-use Rattle.std.specs.Prelude.{◌≡◌, ◌≢◌, ◌⊎◌, ℕ, List, [], ◌++◌, ⊤, None, Some, codes}
+use Rattle.std.specs.Prelude.{◌≡◌, ◌≢◌, ◌⊎◌, ℕ, List, [], ◌++◌, ⊤, if◌then◌else◌, None, Some, Ok, Err, codes}
 use Rattle.std.specs.declared.option.Option.{Option}
-use Rattle.std.specs.Fmt.{decimal}
 use Rattle.std.specs.FinMap.{get}
 use Rattle.std.specs.Io.KnownBytes.{Appends}
 use Rattle.el_outside.specs.Causes.{Rose}
 use Rattle.el_outside.specs.Stored.{FileMap}
 use Rattle.elab_cli.specs.declared.words.Ask.{Ask}
 use Rattle.elab_cli.specs.declared.words.Ask.TheVariants.{Wrong, Check}
-use Rattle.elab_cli.specs.Load.{HasVerdict}
-use Rattle.elab_cli.specs.declared.verdict.Verdict.{Verdict}
-use Rattle.elab_cli.specs.declared.verdict.Verdict.TheVariants.{Error, Complete}
-use Rattle.elab_cli.specs.declared.error.LoadError.{LoadError}
-use Rattle.elab_cli.specs.declared.error.LoadKind.{LoadKind}
-use Rattle.elab_cli.specs.declared.error.LoadKind.TheVariants as kind
+use Rattle.session_text.specs.declared.report.Report.{Report}
+use Rattle.session_text.specs.Lines.{error_bytes, report_bytes}
+use Rattle.file_load.specs.Load.{HasVerdict, Verdict}
 use Rattle.elab_cli.specs.declared.status.Status.{Status}
 use Rattle.elab_cli.specs.declared.status.Status.TheVariants.{Done, Open, FileError, Usage, FilesFault, InputFault, OutputFault, NoMemory, InputTooLong, Missing}
 
@@ -22,42 +18,18 @@ use Rattle.elab_cli.specs.declared.status.Status.TheVariants.{Done, Open, FileEr
 abbrev pub usage_line : List ℕ
 usage_line = codes "usage: elab_cli check NAME | session | gen SEED N; options --fuel N, --depth N, --order N\n"
 
--- the word of a kind of error
-abbrev pub word_of : LoadKind → List ℕ
-word_of kind.TextTooLong = codes "TextTooLong"
-word_of kind.NotUtf8 = codes "NotUtf8"
-word_of kind.BadToken = codes "BadToken"
-word_of kind.BadPragma = codes "BadPragma"
-word_of kind.OpenComment = codes "OpenComment"
-word_of kind.OpenHole = codes "OpenHole"
-word_of kind.Layout = codes "Layout"
-word_of kind.Unexpected = codes "Unexpected"
-word_of kind.TooNested = codes "TooNested"
-word_of kind.Unsupported = codes "Unsupported"
-word_of kind.NotInScope = codes "NotInScope"
-word_of kind.Duplicate = codes "Duplicate"
-word_of kind.NotAConstructor = codes "NotAConstructor"
-word_of kind.Nonlinear = codes "Nonlinear"
-word_of kind.Misplaced = codes "Misplaced"
-word_of kind.Refused = codes "Refused"
-
--- the line of the name of an error, behind two spaces
-abbrev pub name_line : Option (List ℕ) → List ℕ
-name_line None = []
-name_line (Some x) = codes "  " ++ x ++ codes "\n"
-
-abbrev pub error_bytes : LoadError → List ℕ
-error_bytes e = codes "error " ++ decimal e.pos.line ++ codes ":" ++ decimal e.pos.col ++ codes " " ++ word_of e.kind ++ codes "\n" ++ name_line e.name
-
 -- the lines for a text of which this is said
 abbrev pub bytes_of : Verdict → List ℕ
-bytes_of (Error e) = error_bytes e
-bytes_of (Complete n) = codes "complete declarations=" ++ decimal n ++ codes " inserted=0 goals=0 unsolved=0 suspended=0 shadowed=0\n"
+bytes_of (Err e) = error_bytes e
+bytes_of (Ok m) = report_bytes m.report
+
+abbrev pub status_of_report : Report → Status
+status_of_report r = if r.complete then Done else Open
 
 -- the status once these lines went out
 abbrev pub status_of : Verdict → Status
-status_of (Error e) = FileError
-status_of (Complete n) = Done
+status_of (Err e) = FileError
+status_of (Ok m) = status_of_report m.report
 
 -- of these bytes a part went out, and not all
 pub record AppendsPart (old new : Option (List ℕ)) (whole : List ℕ) : Type 0 where

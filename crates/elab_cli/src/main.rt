@@ -2,18 +2,8 @@
 //! written and how the program ends, by the words, the files and the text.
 #![tactic(auto)]
 
-mod error;
-mod infer;
-mod judge;
-pub mod laws;
-mod load;
 mod program;
-mod same;
-mod state;
 mod status;
-mod translate;
-mod unbuilt;
-mod verdict;
 mod words;
 
 use el_outside::{RealFiles, RealSink, RealSource};
@@ -49,7 +39,5 @@ fn main(rt: HostRuntime) -> ExitCode {
     ExitCode::from(status.number())
 }
 
-#[cfg(test)]
-mod names_tests;
 #[cfg(test)]
 mod tests;

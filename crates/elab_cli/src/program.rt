@@ -1,19 +1,27 @@
-ghost use Rattle.std.specs.Prelude.{◌≡◌, ◌≤◌, ◌<◌, map, string_bytes, length, OnOk, OnErr, IsErrOf};
+ghost use Rattle.std.specs.Prelude.{◌≡◌, ◌≢◌, ◌≤◌, ◌<◌, map, string_bytes, length, OnOk, OnErr, IfOk, IsErrOf};
 ghost use Rattle.std.specs.Io.KnownBytes.{Appends};
 ghost use Rattle.el_outside.specs.Causes.{Rose};
 ghost use Rattle.elab_cli.specs.Ask.{ask_of};
-ghost use Rattle.elab_cli.specs.Transcript.{Answers, AppendsPart, Caused, CheckAnswers, EndsWell, NothingFailed, UsageAnswers};
-ghost use Rattle.elab_cli.specs.Said.{HasSaid, Tells};
+ghost use Rattle.elab_cli.specs.Transcript.{Answers, AppendsPart, Caused, CheckAnswers, EndsWell, NothingFailed, UsageAnswers, status_of_report};
+ghost use Rattle.elab_cli.specs.Said.{HasSaid, Sends, Tells};
 
 use crate::Status;
-use crate::load::load;
-use crate::verdict::Verdict;
 use crate::words::{Ask, read_words};
-use el_outside::{FileRead, Files, PutError, Sink, Source};
+use core_terms::Limits;
+use el_outside::{FileRead, Files, NoMemory, PutError, Sink, Source};
+use file_load::{Loaded, load};
+use session_text::{Report, error_bytes, report_bytes};
 use std::alloc::Global;
 
 /// The most bytes that a text may have.
 const LIMIT: u32 = 1_048_576;
+
+/// The limits of a load where the words name no others.
+const LIMITS: Limits = Limits {
+    fuel: 100_000,
+    depth: 1_000,
+    order: 0,
+};
 
 const USAGE: &str =
     "usage: elab_cli check NAME | session | gen SEED N; options --fuel N, --depth N, --order N\n";
@@ -42,14 +50,14 @@ enum Said {
     NoMemory,
 }
 
-/// Writes a line, handed over in one piece.
-fn say<O: Sink>(output: &mut O, line: &str) -> Said
-    requires { 0 < length line.now }
-    ensures bytes { HasSaid (O.written output.old) (O.written output.new) line.now result }
+/// Writes lines, handed over in one piece.
+fn say<O: Sink>(output: &mut O, lines: &[u8]) -> Said
+    requires { 0 < length lines.now }
+    ensures bytes { HasSaid (O.written output.old) (O.written output.new) lines.now result }
     ensures cause { result ≡ Said.Failed → Rose (O.faults output.old) (O.faults output.new) }
     ensures later { O.faults output.old ≤ O.faults output.new }
 {
-    match put_all(output, line.as_bytes()) {
+    match put_all(output, lines) {
         Ok(()) => Said::All,
         Err(PutError::Failed) => Said::Failed,
         Err(PutError::NoMemory) => Said::NoMemory,
@@ -61,25 +69,54 @@ fn usage<O: Sink>(output: &mut O) -> Status
     ensures answers { UsageAnswers (O.written output.old) (O.written output.new) result }
     ensures failed { result ≡ Status.OutputFault → Rose (O.faults output.old) (O.faults output.new) }
 {
-    match say(output, USAGE) {
+    match say(output, USAGE.as_bytes()) {
         Said::All => Status::Usage,
         Said::Failed => Status::OutputFault,
         Said::NoMemory => Status::NoMemory,
     }
 }
 
-/// Writes what is said of a text.
-fn tell<O: Sink>(alloc: Global, verdict: Verdict, output: &mut O) -> Status
-    ensures told { Tells verdict (O.written output.old) (O.written output.new) result }
+/// How the program ends once a report went out.
+fn report_status(report: &Report) -> Status
+    ensures is { result ≡ status_of_report report.now }
+    ensures no_fault { result ≢ Status.OutputFault }
+{
+    if report.complete {
+        Status::Done
+    } else {
+        Status::Open
+    }
+}
+
+/// Writes these lines, unless memory ran out before. The status is the one that is meant, once they went out.
+fn send<O: Sink>(lines: Result<Vec<u8>, NoMemory>, meant: Status, output: &mut O) -> Status
+    requires lines { IfOk lines (λ v. 0 < length v.items) }
+    requires meant { meant ≢ Status.OutputFault }
+    ensures sent { Sends lines meant (O.written output.old) (O.written output.new) result }
     ensures failed { result ≡ Status.OutputFault → Rose (O.faults output.old) (O.faults output.new) }
 {
-    let Ok(line) = verdict.lines(alloc) else {
+    let Ok(lines) = lines else {
         return Status::NoMemory;
     };
-    match say(output, line.as_str()) {
-        Said::All => verdict.status(),
+    match say(output, lines.as_slice()) {
+        Said::All => meant,
         Said::Failed => Status::OutputFault,
         Said::NoMemory => Status::NoMemory,
+    }
+}
+
+/// Writes what is said of a text.
+fn tell<O: Sink>(alloc: Global, loaded: Loaded, output: &mut O) -> Status
+    ensures told { Tells loaded (O.written output.old) (O.written output.new) result }
+    ensures failed { result ≡ Status.OutputFault → Rose (O.faults output.old) (O.faults output.new) }
+{
+    match loaded {
+        Loaded::Error(error) => send(error_bytes(alloc, &error), Status::FileError, output),
+        Loaded::Done(file) => {
+            let report = file.report();
+            send(report_bytes(alloc, report), report_status(report), output)
+        }
+        Loaded::NoMemory => Status::NoMemory,
     }
 }
 
@@ -93,10 +130,8 @@ fn check<F: Files, O: Sink>(alloc: Global, name: &str, files: &mut F, output: &m
 {
     match files.read(alloc, name, LIMIT) {
         FileRead::Bytes(text) => {
-            let Ok(verdict) = load(alloc, text.as_slice()) else {
-                return Status::NoMemory;
-            };
-            tell(alloc, verdict, output)
+            let loaded = load(alloc, text.as_slice(), LIMITS);
+            tell(alloc, loaded, output)
         }
         FileRead::Missing => Status::Missing,
         FileRead::Failed => Status::FilesFault,

@@ -1,9 +1,9 @@
 use Rattle.std.proofs.Common.{List, ℕ, subst}
-use Rattle.elab_cli.specs.Load.{HasVerdict}
-use Rattle.elab_cli.proofs.Endings.{judged_read, told_answers}
+use Rattle.file_load.specs.LoadedFile as loaded
+use Rattle.elab_cli.proofs.Endings.{told_answers}
 use Rattle.elab_cli.proofs.program.check.Goals as goal
 
-pub returns-in-Ok-clause-answers : goal.returns-in-Ok-clause-answers
-returns-in-Ok-clause-answers g c =
-    let judged : HasVerdict c.in-Bytes.text c.in-Ok.verdict = subst (λ (t : List ℕ). HasVerdict t c.in-Ok.verdict) c.as_slice.ensures c.in-Ok.ensures in
-    told_answers _ _ _ _ _ _ (judged_read _ _ _ _ c.in-Bytes.ensures.gives judged) c.tell.ensures.told
+pub returns-in-Bytes-clause-answers : goal.returns-in-Bytes-clause-answers
+returns-in-Bytes-clause-answers g c =
+    let judged : loaded.Answers c.in-Bytes.text c.load-loaded.result = subst (λ (t : List ℕ). loaded.Answers t c.load-loaded.result) c.as_slice.ensures c.load-loaded.ensures in
+    told_answers _ _ _ _ _ _ _ c.in-Bytes.ensures.gives judged c.tell.ensures.told

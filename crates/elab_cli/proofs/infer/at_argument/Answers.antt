@@ -1,9 +1,0 @@
-use Rattle.std.proofs.Common.{sym, ◌∙◌}
-use Rattle.elab_cli.proofs.Inferring.{other_type, at_the_type}
-use Rattle.elab_cli.proofs.infer.at_argument.Goals as goal
-
-pub returns-then-not-branch-clause-is : goal.returns-then-not-branch-clause-is
-returns-then-not-branch-clause-is c = other_type c.args.argument.flag c.in-Pi.flag c.in-Pi.name _ _ _ _ _ c.in_ok-are_same.field-0 c.in-Pi.ensures.is (sym c.same_flag.ensures ∙ c.if-not-same_flag.false) c.in_ok-are_same.ensures.is c.if-not-branch.true
-
-pub returns-clause-is : goal.returns-clause-is
-returns-clause-is c = at_the_type c.args.argument.flag c.in-Pi.flag c.in-Pi.name _ _ _ _ _ c.in_ok-are_same.field-0 c.subst.new.pool c.in_ok-result.result c.in-Pi.ensures.is (sym c.same_flag.ensures ∙ c.if-not-same_flag.false) c.in_ok-are_same.ensures.is c.if-not-branch.false c.in_ok-result.ensures.is

@@ -1,5 +1,0 @@
-use Rattle.elab_cli.specs.Load.{Reads}
-use Rattle.elab_cli.proofs.load.lay_out_text.Goals as goal
-
-pub returns-in-Err-Outside : goal.returns-in-Err-Outside
-returns-in-Err-Outside c = rw (c.at.ensures, c.in-Err-Outside.field-0-is) (Reads.outside c.requires (rw c.as_slice.ensures at (rw c.in-Err-Outside.field-0-is at c.in-Err-Outside.ensures)))

@@ -1,0 +1,221 @@
+-- One thing at most is said of a text.
+use Rattle.std.proofs.Common.{◌≡◌, ◌≢◌, ◌<◌, ℕ, List, length, take, Some, None, Ok, Err, refl, sym, ap, subst, ◌∙◌, arith}
+use Rattle.std.specs.Prelude.{Result}
+use Rattle.std.specs.Str.{IsUtf8, IsValidUpTo}
+use Rattle.std.proofs.lemmas.List.{take_all}
+use Rattle.el_outside.specs.declared.Pos.{Pos}
+use Rattle.el_outside.specs.Place.{pos_of}
+use Rattle.agda_lexer.specs.declared.Lexed.{Lexed}
+use Rattle.agda_lexer.specs.declared.LexKind.{LexKind}
+use Rattle.agda_lexer.specs.Tokens.{lex_of}
+use Rattle.agda_layout.specs.declared.laid.Laid.{Laid}
+use Rattle.agda_layout.specs.Blocks.{laid}
+use Rattle.agda_parser.specs.declared.error.ParseKind.{ParseKind}
+use Rattle.agda_parser.specs.declared.error.ParseError.{ParseError}
+use Rattle.agda_parser.specs.declared.error.ParseError.TheVariants.{Bad, NoMemory}
+use Rattle.agda_parser.specs.Declarations.{file_then, file_tree}
+use Rattle.agda_parser.specs.Reading.{Settles}
+use Rattle.agda_parser.specs.Tokens.{laid_signs}
+use Rattle.agda_parser.proofs.OneAnswer.{one_answer as parsed_as}
+use Rattle.source_tree.specs.declared.decl.Decl.{Decl}
+use Rattle.source_tree.specs.declared.decl.File.{File}
+use Rattle.scope_check.specs.declared.resolved.Resolved.{Resolved}
+use Rattle.scope_check.specs.Answers.{Checked}
+use Rattle.scope_check.specs.Known.{Known}
+use Rattle.scope_check.proofs.DeclCases.{one_answer as resolved_once}
+use Rattle.core_rules.specs.Term.{Term}
+use Rattle.core_rules.specs.Signature.{Signature}
+use Rattle.session_text.specs.declared.error.LoadError.{LoadError}
+use Rattle.session_text.specs.declared.error.LoadKind.TheVariants as kind
+use Rattle.file_load.specs.Unbuilt.{in_file}
+use Rattle.file_load.specs.Accept.{with_decl}
+use Rattle.file_load.specs.Load.{Declares, DeclaresFile, HasVerdict, IsInError, IsLexed, IsLoaded, IsParsed, Made, Outcome, Reads, Verdict, complete_report, error_at, lex_kind, parse_kind, place_of_byte}
+
+-- ---- the stages
+
+-- a text that is not UTF-8 is valid up to one byte
+valid_once : (bs : List ℕ) (n m : ℕ) → IsValidUpTo bs n → IsValidUpTo bs m → n ≡ m
+valid_once bs n m v w = by_order (v.longest m) (w.longest n)
+  where
+    by_order : (n < m → ¬ (IsUtf8 (take m bs))) → (m < n → ¬ (IsUtf8 (take n bs))) → n ≡ m
+    by_order a b = grind (arith, no_less, no_more)
+      where
+        no_less : ¬ (n < m)
+        no_less l = a l w.front
+
+        no_more : ¬ (m < n)
+        no_more l = b l v.front
+
+not_valid : (bs : List ℕ) (n : ℕ) → IsUtf8 bs → IsValidUpTo bs n → ⊥
+not_valid bs n u v = v.longest (length bs) v.short (subst IsUtf8 (sym (take_all (length bs) bs (omega arith))) u)
+
+lexed_once : {text : List ℕ} {l m : Lexed} → IsLexed text l → IsLexed text m → l ≡ m
+lexed_once a b = let at_first = a.tokens in let at_second = b.tokens in cc
+
+-- the parser has one answer
+parsed_once : {text : List ℕ} {a b : Result File ParseError} → a ≢ Err NoMemory → b ≢ Err NoMemory → IsParsed text a → IsParsed text b → a ≡ b
+parsed_once {text = text} {a = a} {b = b} na nb p q =
+    let tokens : p.lexed ≡ q.lexed = lexed_once p.lexes q.lexes in
+    let lays : laid p.lexed.tokens ≡ Ok q.signs = subst (λ (l : Lexed). laid l.tokens ≡ Ok q.signs) (sym tokens) q.lays in
+    let signs : p.signs ≡ q.signs = let first = p.lays in cc in
+    let moved : Settles file_then (file_tree text) text (laid_signs p.lexed.tokens q.signs) b = subst (λ (l : Lexed). Settles file_then (file_tree text) text (laid_signs l.tokens q.signs) b) (sym tokens) q.parses in
+    parsed_as file_then text (laid_signs p.lexed.tokens p.signs) (file_tree text) a b na nb p.parses
+    (subst (λ (s : List Laid). Settles file_then (file_tree text) text (laid_signs p.lexed.tokens s) b) (sym signs) moved)
+
+files_once : {text : List ℕ} {f g : File} → IsParsed text (Ok f) → IsParsed text (Ok g) → f ≡ g
+files_once p q = let one = parsed_once (λ e. absurd cc) (λ e. absurd cc) p q in cc
+
+abbrev failed : LoadError → Result File LoadError
+failed e = Err e
+
+token_once : (text : List ℕ) {p q : Pos} {j k : LexKind} → lex_of text ≡ Err (p, j) → lex_of text ≡ Err (q, k) → failed (error_at p (lex_kind j)) ≡ failed (error_at q (lex_kind k))
+token_once text {p = p} {q = q} {j = j} {k = k} e d =
+    let pair : (p, j) ≡ (q, k) = cc in
+    ap (λ (t : Pos × LexKind). failed (error_at t.0 (lex_kind t.1))) pair
+
+unbuilt_once : (text : List ℕ) {f g : File} {n m : ℕ} → f ≡ g → in_file f ≡ Some n → in_file g ≡ Some m → failed (error_at (place_of_byte text n) kind.Unsupported) ≡ failed (error_at (place_of_byte text m) kind.Unsupported)
+unbuilt_once text same e d = cc
+
+module _ {text : List ℕ} where
+  not_lexed : {p : Pos} {k : LexKind} {l : Lexed} → lex_of text ≡ Err (p, k) → IsLexed text l → ⊥
+  not_lexed e l = let tokens = l.tokens in absurd cc
+
+  outside_once : {p q : Pos} {l m : Lexed} → IsLexed text l → laid l.tokens ≡ Err p → IsLexed text m → laid m.tokens ≡ Err q → failed (error_at p kind.Layout) ≡ failed (error_at q kind.Layout)
+  outside_once l e m f = let same = lexed_once l m in cc
+
+  not_laid : {p : Pos} {l : Lexed} {answer : Result File ParseError} → IsLexed text l → laid l.tokens ≡ Err p → IsParsed text answer → ⊥
+  not_laid l e q = let same = lexed_once l q.lexes in let lays = q.lays in absurd cc
+
+  refused_once : {p q : Pos} {j k : ParseKind} → IsParsed text (Err (Bad p j)) → IsParsed text (Err (Bad q k)) → failed (error_at p (parse_kind j)) ≡ failed (error_at q (parse_kind k))
+  refused_once a b = let one = parsed_once (λ e. absurd cc) (λ e. absurd cc) a b in cc
+
+  not_parsed : {p : Pos} {k : ParseKind} {file : File} → IsParsed text (Err (Bad p k)) → IsParsed text (Ok file) → ⊥
+  not_parsed a b = let one = parsed_once (λ e. absurd cc) (λ e. absurd cc) a b in absurd cc
+
+  not_built : {f g : File} {n : ℕ} → IsParsed text (Ok f) → in_file f ≡ Some n → IsParsed text (Ok g) → in_file g ≡ None → ⊥
+  not_built p e q d = let same = files_once p q in absurd cc
+
+  -- the constructors of Reads exclude each other, and each has one result
+  reads_once : {a b : Result File LoadError} → Reads text a → Reads text b → a ≡ b
+  reads_once (Reads.too_long h) (Reads.too_long h1) = refl
+  reads_once (Reads.too_long h) (Reads.not_utf8 s1 v1) = absurd (omega (arith, h, s1))
+  reads_once (Reads.too_long h) (Reads.no_token s1 u1 e1) = absurd (omega (arith, h, s1))
+  reads_once (Reads.too_long h) (Reads.outside l1 e1) = absurd (omega (arith, h, l1.short))
+  reads_once (Reads.too_long h) (Reads.no_file p1) = absurd (omega (arith, h, p1.lexes.short))
+  reads_once (Reads.too_long h) (Reads.unbuilt p1 e1) = absurd (omega (arith, h, p1.lexes.short))
+  reads_once (Reads.too_long h) (Reads.built p1 e1) = absurd (omega (arith, h, p1.lexes.short))
+  reads_once (Reads.not_utf8 s v) (Reads.too_long h1) = absurd (omega (arith, h1, s))
+  reads_once (Reads.not_utf8 s v) (Reads.not_utf8 s1 v1) = ap (λ n. Err (error_at (pos_of text n) kind.NotUtf8)) (valid_once text _ _ v v1)
+  reads_once (Reads.not_utf8 s v) (Reads.no_token s1 u1 e1) = absurd (not_valid text _ u1 v)
+  reads_once (Reads.not_utf8 s v) (Reads.outside l1 e1) = absurd (not_valid text _ l1.utf8 v)
+  reads_once (Reads.not_utf8 s v) (Reads.no_file p1) = absurd (not_valid text _ p1.lexes.utf8 v)
+  reads_once (Reads.not_utf8 s v) (Reads.unbuilt p1 e1) = absurd (not_valid text _ p1.lexes.utf8 v)
+  reads_once (Reads.not_utf8 s v) (Reads.built p1 e1) = absurd (not_valid text _ p1.lexes.utf8 v)
+  reads_once (Reads.no_token s u e) (Reads.too_long h1) = absurd (omega (arith, h1, s))
+  reads_once (Reads.no_token s u e) (Reads.not_utf8 s1 v1) = absurd (not_valid text _ u v1)
+  reads_once (Reads.no_token s u e) (Reads.no_token s1 u1 e1) = token_once text e e1
+  reads_once (Reads.no_token s u e) (Reads.outside l1 e1) = absurd (not_lexed e l1)
+  reads_once (Reads.no_token s u e) (Reads.no_file p1) = absurd (not_lexed e p1.lexes)
+  reads_once (Reads.no_token s u e) (Reads.unbuilt p1 e1) = absurd (not_lexed e p1.lexes)
+  reads_once (Reads.no_token s u e) (Reads.built p1 e1) = absurd (not_lexed e p1.lexes)
+  reads_once (Reads.outside l e) (Reads.too_long h1) = absurd (omega (arith, h1, l.short))
+  reads_once (Reads.outside l e) (Reads.not_utf8 s1 v1) = absurd (not_valid text _ l.utf8 v1)
+  reads_once (Reads.outside l e) (Reads.no_token s1 u1 e1) = absurd (not_lexed e1 l)
+  reads_once (Reads.outside l e) (Reads.outside l1 e1) = outside_once l e l1 e1
+  reads_once (Reads.outside l e) (Reads.no_file p1) = absurd (not_laid l e p1)
+  reads_once (Reads.outside l e) (Reads.unbuilt p1 e1) = absurd (not_laid l e p1)
+  reads_once (Reads.outside l e) (Reads.built p1 e1) = absurd (not_laid l e p1)
+  reads_once (Reads.no_file p) (Reads.too_long h1) = absurd (omega (arith, h1, p.lexes.short))
+  reads_once (Reads.no_file p) (Reads.not_utf8 s1 v1) = absurd (not_valid text _ p.lexes.utf8 v1)
+  reads_once (Reads.no_file p) (Reads.no_token s1 u1 e1) = absurd (not_lexed e1 p.lexes)
+  reads_once (Reads.no_file p) (Reads.outside l1 e1) = absurd (not_laid l1 e1 p)
+  reads_once (Reads.no_file p) (Reads.no_file p1) = refused_once p p1
+  reads_once (Reads.no_file p) (Reads.unbuilt p1 e1) = absurd (not_parsed p p1)
+  reads_once (Reads.no_file p) (Reads.built p1 e1) = absurd (not_parsed p p1)
+  reads_once (Reads.unbuilt p e) (Reads.too_long h1) = absurd (omega (arith, h1, p.lexes.short))
+  reads_once (Reads.unbuilt p e) (Reads.not_utf8 s1 v1) = absurd (not_valid text _ p.lexes.utf8 v1)
+  reads_once (Reads.unbuilt p e) (Reads.no_token s1 u1 e1) = absurd (not_lexed e1 p.lexes)
+  reads_once (Reads.unbuilt p e) (Reads.outside l1 e1) = absurd (not_laid l1 e1 p)
+  reads_once (Reads.unbuilt p e) (Reads.no_file p1) = absurd (not_parsed p1 p)
+  reads_once (Reads.unbuilt p e) (Reads.unbuilt p1 e1) = let file = files_once p p1 in let first = e in let second = e1 in unbuilt_once text file first second
+  reads_once (Reads.unbuilt p e) (Reads.built p1 e1) = absurd (not_built p e p1 e1)
+  reads_once (Reads.built p e) (Reads.too_long h1) = absurd (omega (arith, h1, p.lexes.short))
+  reads_once (Reads.built p e) (Reads.not_utf8 s1 v1) = absurd (not_valid text _ p.lexes.utf8 v1)
+  reads_once (Reads.built p e) (Reads.no_token s1 u1 e1) = absurd (not_lexed e1 p.lexes)
+  reads_once (Reads.built p e) (Reads.outside l1 e1) = absurd (not_laid l1 e1 p)
+  reads_once (Reads.built p e) (Reads.no_file p1) = absurd (not_parsed p1 p)
+  reads_once (Reads.built p e) (Reads.unbuilt p1 e1) = absurd (not_built p1 e1 p e)
+  reads_once (Reads.built p e) (Reads.built p1 e1) = ap Ok (files_once p p1)
+
+-- ---- the declarations
+
+abbrev resolves_to : Resolved → Known → Checked (Resolved × Known)
+resolves_to r m = Ok (r, m)
+
+-- the trees and what is known, of two equal answers
+pair_once : {m n : Known} {r q : Resolved} → resolves_to r m ≡ resolves_to q n → (r ≡ q) × (m ≡ n)
+pair_once {m = m} {n = n} {r = r} {q = q} e = let pair : (r, m) ≡ (q, n) = cc in (ap (λ (t : Resolved × Known). t.0) pair, ap (λ (t : Resolved × Known). t.1) pair)
+
+not_declared : (g : Signature Term) {h : Signature Term} {r q : Resolved} → r ≡ q → with_decl g r ≡ None → with_decl g q ≡ Some h → ⊥
+not_declared g {h = h} same n s = let both : None ≡ Some h = sym n ∙ ap (with_decl g) same ∙ s in absurd cc
+
+signature_once : (g : Signature Term) {h i : Signature Term} {r q : Resolved} → r ≡ q → with_decl g r ≡ Some h → with_decl g q ≡ Some i → h ≡ i
+signature_once g {h = h} {i = i} same s t = let both : Some h ≡ Some i = sym s ∙ ap (with_decl g) same ∙ t in cc
+
+declares_once : {k : Known} {g : Signature Term} {ds : List Decl} {a b : Outcome} → Declares k g ds a → Declares k g ds b → a ≡ b
+declares_once Declares.none Declares.none = refl
+declares_once (Declares.unresolved {k = k} {d = d} e) (Declares.unresolved f) = let one = resolved_once k d _ _ e f in cc
+declares_once (Declares.unresolved {k = k} {d = d} e) (Declares.refused f r) = let one = resolved_once k d _ _ e f in absurd cc
+declares_once (Declares.unresolved {k = k} {d = d} e) (Declares.declared f r more) = let one = resolved_once k d _ _ e f in absurd cc
+declares_once (Declares.refused {k = k} {d = d} e r) (Declares.unresolved f) = let one = resolved_once k d _ _ e f in absurd cc
+declares_once (Declares.refused e r) (Declares.refused f s) = refl
+declares_once (Declares.refused {k = k} {g = g} {d = d} e r) (Declares.declared f s more) = absurd (not_declared g (pair_once (resolved_once k d _ _ e f)).0 r s)
+declares_once (Declares.declared {k = k} {d = d} e r more) (Declares.unresolved f) = let one = resolved_once k d _ _ e f in absurd cc
+declares_once (Declares.declared {k = k} {g = g} {d = d} e r more) (Declares.refused f s) = absurd (not_declared g (pair_once (resolved_once k d _ _ f e)).0 s r)
+declares_once (Declares.declared {k = k} {g = g} {h = h} {d = d} {ds = ds} e r more) (Declares.declared {m = m} {result = b} f s more1) =
+    let same = pair_once (resolved_once k d _ _ e f) in
+    declares_once more (subst (λ (l : Known). Declares l h ds b) (sym same.1) (subst (λ (i : Signature Term). Declares m i ds b) (sym (signature_once g same.0 r s)) more1))
+
+-- ---- the verdict
+
+module _ (text : List ℕ) where
+  file_once : {f g : File} → Reads text (Ok f) → Reads text (Ok g) → f ≡ g
+  file_once r s = let one = reads_once r s in cc
+
+  loads_once : {f g : File} {a b : Outcome} → Reads text (Ok f) → DeclaresFile f a → Reads text (Ok g) → DeclaresFile g b → a ≡ b
+  loads_once {b = b} r d s c = declares_once d (subst (λ (h : File). DeclaresFile h b) (sym (file_once r s)) c)
+
+  errors_once : {e f : LoadError} → IsInError text e → IsInError text f → e ≡ f
+  errors_once (IsInError.unread r) (IsInError.unread s) = let one = reads_once r s in cc
+  errors_once (IsInError.unread r) (IsInError.undeclared s d) = let one = reads_once r s in absurd cc
+  errors_once (IsInError.undeclared r d) (IsInError.unread s) = let one = reads_once r s in absurd cc
+  errors_once (IsInError.undeclared r d) (IsInError.undeclared s c) = let one = loads_once r d s c in cc
+
+  not_both : {e : LoadError} {m : Made} → IsInError text e → IsLoaded text m → ⊥
+  not_both (IsInError.unread r) b = let one = reads_once r b.reads in absurd cc
+  not_both (IsInError.undeclared r d) b = let one = loads_once r d b.reads b.made.loads in absurd cc
+
+  abbrev declared_to : Known × Signature Term → Outcome
+  declared_to p = Ok p
+
+  ends_once : (p q : Known × Signature Term) → declared_to p ≡ declared_to q → p ≡ q
+  ends_once p q e = cc
+
+  made_once : {m n : Made} → IsLoaded text m → IsLoaded text n → m ≡ n
+  made_once {m = m} {n = n} a b =
+      let one = loads_once a.reads a.made.loads b.reads b.made.loads in
+      let ends : (a.made.known, m.signature) ≡ (b.made.known, n.signature) = ends_once (a.made.known, m.signature) (b.made.known, n.signature) one in
+      let known : a.made.known ≡ b.made.known = ap (λ (p : Known × Signature Term). p.0) ends in
+      let signature : m.signature ≡ n.signature = ap (λ (p : Known × Signature Term). p.1) ends in
+      let names : m.names ≡ n.names = a.made.names ∙ ap (λ (k : Known). k.names) known ∙ sym b.made.names in
+      let report : m.report ≡ n.report = a.made.report ∙ ap (λ (g : Signature Term). complete_report (length g)) signature ∙ sym b.made.report in
+      λ i. record { report = report i; names = names i; signature = signature i }
+
+pub one_verdict : (text : List ℕ) (v w : Verdict) → HasVerdict text v → HasVerdict text w → v ≡ w
+one_verdict text (Err e) (Err f) a b = ap Err (errors_once text a b)
+one_verdict text (Err e) (Ok m) a b = absurd (not_both text a b)
+one_verdict text (Ok m) (Err e) a b = absurd (not_both text b a)
+one_verdict text (Ok m) (Ok n) a b = ap Ok (made_once text a b)
+
+pub one_signature : (text : List ℕ) (m n : Made) → IsLoaded text m → IsLoaded text n → m.signature ≡ n.signature
+one_signature text m n a b = ap (λ (x : Made). x.signature) (made_once text a b)

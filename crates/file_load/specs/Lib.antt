@@ -1,0 +1,11 @@
+pub mod Accept
+pub mod Equal
+pub mod Inferred
+pub mod Judged
+pub mod Same
+pub mod Translated
+pub mod Unbuilt
+pub mod Load
+pub mod LoadedFile
+pub mod Stages
+pub mod Refused

@@ -1,0 +1,89 @@
+ghost use Rattle.std.specs.Prelude.{◌≡◌};
+ghost use Rattle.file_load.specs.Load.{complete_report};
+
+use core_terms::{Names, Signature, TermPool};
+use el_outside::Many;
+use scope_check::Scope;
+use session_text::{LoadError, Report};
+use std::alloc::Global;
+
+/// What was made of a text without an error.
+#[derive(Drop)]
+pub struct LoadedFile {
+    report: Report,
+    scope: Scope,
+    pool: TermPool,
+    signature: Signature,
+}
+
+/// The answer to a text.
+#[derive(Drop)]
+pub enum Loaded {
+    /// The first error of the text.
+    Error(LoadError),
+    Done(LoadedFile),
+    NoMemory,
+}
+
+/// The report of a text whose declarations are accepted.
+fn complete(alloc: Global, declarations: u32) -> Report
+    ensures { result ≡ complete_report declarations }
+{
+    Report {
+        complete: true,
+        declarations,
+        inserted: 0,
+        goals: Many::from_vec(Vec::new(alloc)),
+        unsolved: Many::from_vec(Vec::new(alloc)),
+        suspended: Many::from_vec(Vec::new(alloc)),
+        shadowed: Many::from_vec(Vec::new(alloc)),
+    }
+}
+
+impl LoadedFile {
+    ghost use Rattle.std.specs.Prelude.{length};
+    ghost use Rattle.core_rules.specs.Signature.{defs};
+    ghost use Rattle.file_load.specs.LoadedFile.{names_of, pool_of, report_of, signature_of};
+
+    /// The file whose declarations made this signature.
+    pub fn new(alloc: Global, scope: Scope, pool: TermPool, signature: Signature) -> LoadedFile
+        ensures report { report_of result ≡ complete_report (length (defs signature)) }
+        ensures names { names_of result ≡ scope.names }
+        ensures pool { pool_of result ≡ pool }
+        ensures signature { signature_of result ≡ signature }
+    {
+        let report = complete(alloc, signature.defs());
+        LoadedFile {
+            report,
+            scope,
+            pool,
+            signature,
+        }
+    }
+
+    pub fn report(&self) -> &Report
+        ensures { result.now ≡ report_of self.now }
+    {
+        &self.report
+    }
+
+    /// The terms of the signature.
+    pub fn pool(&self) -> &TermPool
+        ensures { result.now ≡ pool_of self.now }
+    {
+        &self.pool
+    }
+
+    pub fn signature(&self) -> &Signature
+        ensures { result.now ≡ signature_of self.now }
+    {
+        &self.signature
+    }
+
+    /// The texts of the names of the signature and of its binders.
+    pub fn names(&self) -> &Names
+        ensures { result.now ≡ names_of self.now }
+    {
+        self.scope.names()
+    }
+}

@@ -1,0 +1,135 @@
+//! The first form of a file, in the order of the text, that is not built so far. It takes no memory.
+
+ghost use Rattle.std.specs.Prelude.{◌≡◌, map};
+ghost use Rattle.file_load.specs.Unbuilt as spec;
+ghost use Rattle.source_tree.specs.declared.expr.Expr.{out-Expr};
+ghost use Rattle.source_tree.specs.declared.expr.Arg.{out-Arg};
+ghost use Rattle.source_tree.specs.declared.expr.Binder.{out-Binder};
+
+use source_tree::{Arg, Binder, Decl, Expr, File, Signature};
+
+/// The byte at which the first form of the file begins that is not built.
+pub fn first_unbuilt(file: &File) -> Option<u32>
+    ensures { result ≡ spec.in_file file.now }
+{
+    in_decls(file.decls.as_slice())
+}
+
+fn in_decls(decls: &[Decl]) -> Option<u32>
+    ensures { result ≡ spec.first_of (map spec.in_decl decls.now) }
+{
+    for decl in decls {
+        if let Some(at) = in_decl(decl) {
+            return Some(at);
+        }
+    }
+    None
+}
+
+fn in_decl(decl: &Decl) -> Option<u32>
+    ensures { result ≡ spec.in_decl decl.now }
+{
+    match decl {
+        Decl::Postulate(_, signatures) => in_signatures(signatures.as_slice()),
+        Decl::Function(place, _, _)
+        | Decl::Open(place, _, _)
+        | Decl::Data(place, _, _, _, _)
+        | Decl::Record(place, _, _, _, _) => Some(place.span.start),
+        Decl::Clause(clause) => Some(clause.place.span.start),
+    }
+}
+
+fn in_signatures(signatures: &[Signature]) -> Option<u32>
+    ensures { result ≡ spec.first_of (map spec.in_signature signatures.now) }
+{
+    for signature in signatures {
+        if let Some(at) = in_expr(&signature.ty) {
+            return Some(at);
+        }
+    }
+    None
+}
+
+#[cycle(unbuilt)]
+#[tactic(auto, unfolding(crate::specs::Unbuilt::in_expr, crate::specs::Unbuilt::in_arg, crate::specs::Unbuilt::in_binder))]
+fn in_expr(found: &Expr) -> Option<u32>
+    ensures { result ≡ spec.in_expr found.now }
+{
+    match found {
+        Expr::Pi(_, binders, body) | Expr::Forall(_, binders, body) => {
+            match in_binders(binders.as_slice()) {
+                Some(at) => Some(at),
+                None => in_expr(body.get()),
+            }
+        }
+        Expr::Arrow(_, dom, cod) => match in_expr(dom.get()) {
+            Some(at) => Some(at),
+            None => in_expr(cod.get()),
+        },
+        Expr::App(_, head, args) => {
+            let behind = in_args(args.as_slice());
+            match in_expr(head.get()) {
+                Some(at) => Some(at),
+                None => behind,
+            }
+        }
+        Expr::Name(_) | Expr::SetLevel(_, _) => None,
+        Expr::Lambda(place, _, _)
+        | Expr::Hole(place)
+        | Expr::Underscore(place)
+        | Expr::Record(place, _) => Some(place.span.start),
+        Expr::Qualified(name) => Some(name.place.span.start),
+    }
+}
+
+#[cycle(unbuilt)]
+#[tactic(auto, unfolding(crate::specs::Unbuilt::in_expr, crate::specs::Unbuilt::in_arg, crate::specs::Unbuilt::in_binder))]
+fn in_arg(found: &Arg) -> Option<u32>
+    ensures { result ≡ spec.in_arg found.now }
+{
+    match found {
+        Arg::Plain(value) => in_expr(value),
+        Arg::Implicit(place, _)
+        | Arg::Named(place, _, _)
+        | Arg::Project(place, _)
+        | Arg::ProjectQualified(place, _) => Some(place.span.start),
+    }
+}
+
+#[cycle(unbuilt)]
+#[tactic(auto, unfolding(crate::specs::Unbuilt::in_expr, crate::specs::Unbuilt::in_arg, crate::specs::Unbuilt::in_binder))]
+fn in_binder(found: &Binder) -> Option<u32>
+    ensures { result ≡ spec.in_binder found.now }
+{
+    match found {
+        Binder::Explicit(_, _, ty) => in_expr(ty.get()),
+        Binder::Implicit(place, _, _) | Binder::Braced(place, _) | Binder::Underscore(place) => {
+            Some(place.span.start)
+        }
+        Binder::Name(name) => Some(name.place.span.start),
+    }
+}
+
+#[cycle(unbuilt)]
+fn in_args(args: &[Arg]) -> Option<u32>
+    ensures { result ≡ spec.first_of (map spec.in_arg args.now) }
+{
+    for arg in args {
+        if let Some(at) = in_arg(arg) {
+            return Some(at);
+        }
+    }
+    None
+}
+
+#[cycle(unbuilt)]
+fn in_binders(binders: &[Binder]) -> Option<u32>
+    ensures { result ≡ spec.first_of (map spec.in_binder binders.now) }
+{
+    for binder in binders {
+        if let Some(at) = in_binder(binder) {
+            return Some(at);
+        }
+    }
+    None
+}

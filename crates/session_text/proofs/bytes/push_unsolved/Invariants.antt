@@ -1,0 +1,10 @@
+use Rattle.std.proofs.Common.{◌≡◌, ◌++◌, length}
+use Rattle.std.specs.Prelude.{string_bytes}
+use Rattle.session_text.specs.Lines.{unsolved_lines}
+use Rattle.session_text.proofs.bytes.push_unsolved.Given as goal
+
+abbrev pub invariant-loop-left : goal.invariant-loop-left
+invariant-loop-left l = string_bytes l.fn.text ++ unsolved_lines l.all ≡ string_bytes l.text ++ unsolved_lines l.left
+
+abbrev pub decreases-loop-left : goal.decreases-loop-left
+decreases-loop-left l = length l.left

@@ -1,0 +1,2 @@
+postulate
+  F : Set → Set

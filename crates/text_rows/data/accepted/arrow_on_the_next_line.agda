@@ -1,0 +1,3 @@
+postulate
+  A : Set
+    → Set

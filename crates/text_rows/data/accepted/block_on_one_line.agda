@@ -1,0 +1,1 @@
+postulate A : Set

@@ -1,0 +1,5 @@
+postulate
+  A : Set
+{- a
+comment -}
+postulate B : Set

@@ -1,0 +1,3 @@
+postulate
+  A--b : Set
+  x-> : A--b

@@ -1,0 +1,5 @@
+postulate
+  A : Set
+postulate
+postulate
+  B : A → Set

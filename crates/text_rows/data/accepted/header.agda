@@ -1,0 +1,3 @@
+module M where
+postulate
+  A : Set

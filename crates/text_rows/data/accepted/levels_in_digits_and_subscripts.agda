@@ -1,0 +1,4 @@
+postulate
+  A : Set0
+  B : Set₁
+  F : Set → Set1

@@ -1,0 +1,3 @@
+postulate
+  A B : Set
+  x y z : A → B

@@ -1,0 +1,2 @@
+{-# BUILTIN x #-}
+postulate A : Set

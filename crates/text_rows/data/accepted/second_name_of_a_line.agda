@@ -1,0 +1,5 @@
+postulate
+  A B : Set
+  P : A → Set
+  x y : A
+  p : P y

@@ -1,0 +1,2 @@
+postulate
+  Set01 : Set

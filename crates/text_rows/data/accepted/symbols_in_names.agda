@@ -1,0 +1,3 @@
+postulate
+  ℕ : Set
+  z′ : ℕ

@@ -1,0 +1,4 @@
+postulate
+  A : Set
+postulate
+  B : Set

@@ -1,0 +1,5 @@
+postulate
+  P : (A : Set) → A → Set
+  B : Set
+  b : B
+  y : P B b

@@ -1,0 +1,4 @@
+postulate
+  A : Set
+  P : A → Set
+  q : (A : A) → P A

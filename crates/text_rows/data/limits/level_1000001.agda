@@ -1,0 +1,1 @@
+postulate x : Set1000001

@@ -1,0 +1,3 @@
+postulate
+  B : λ x → x
+  C : (

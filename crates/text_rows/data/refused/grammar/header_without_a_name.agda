@@ -1,0 +1,3 @@
+module where
+ x
+y

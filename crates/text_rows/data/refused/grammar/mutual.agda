@@ -1,0 +1,4 @@
+data Nat : Set where
+  zero : Nat
+  suc : Nat → Nat
+mutual

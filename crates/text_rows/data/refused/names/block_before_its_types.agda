@@ -1,0 +1,4 @@
+postulate
+  F : Set → Set
+  x : F Set
+  y : B

@@ -1,0 +1,3 @@
+postulate
+  z : Nat
+  Nat : Set

@@ -1,0 +1,4 @@
+postulate
+  A : Set
+  x : A A
+  A : Set

@@ -1,0 +1,3 @@
+postulate
+  A : A
+  A : Set

@@ -1,0 +1,2 @@
+  postulate
+x : λ {!

@@ -1,0 +1,3 @@
+postulate
+  F : Set → Set
+  A : F Set1

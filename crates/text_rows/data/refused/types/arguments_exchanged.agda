@@ -1,0 +1,6 @@
+postulate
+  P : (A : Set) → A → Set
+  B : Set
+  b : B
+  y : P B b
+  z : P b B

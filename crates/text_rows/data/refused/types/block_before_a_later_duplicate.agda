@@ -1,0 +1,5 @@
+postulate
+  A : Set
+  x : A A
+postulate
+  A : Set

@@ -1,0 +1,5 @@
+postulate
+  F : Set → Set
+  x : F Set
+postulate
+  y : B

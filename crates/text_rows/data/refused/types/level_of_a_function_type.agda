@@ -1,0 +1,4 @@
+postulate
+  A : Set
+  F : Set → Set
+  x : F (Set → A)

@@ -1,0 +1,3 @@
+postulate
+  F : Set1 → Set
+  A : F Set1

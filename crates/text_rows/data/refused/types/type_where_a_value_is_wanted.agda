@@ -1,0 +1,4 @@
+postulate
+  A : Set
+  f : A → A
+  x : f A

@@ -1,0 +1,3 @@
+postulate
+  F : Set → Set
+  x : F Set

@@ -1,0 +1,1 @@
+{- λ -} postulate é : (λ x → x)

@@ -1,0 +1,1 @@
+﻿data D : Set where

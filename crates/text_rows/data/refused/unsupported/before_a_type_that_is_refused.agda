@@ -1,0 +1,4 @@
+postulate
+  A : Set Set
+postulate
+  ℕ : Set → ?

@@ -1,0 +1,3 @@
+postulate
+  A : B
+  A : _

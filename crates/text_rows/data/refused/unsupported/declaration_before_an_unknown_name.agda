@@ -1,0 +1,3 @@
+postulate
+  x : C
+data D : Set where

@@ -1,0 +1,2 @@
+f : Set
+f = Set

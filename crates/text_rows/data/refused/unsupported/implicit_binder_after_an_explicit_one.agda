@@ -1,0 +1,2 @@
+postulate
+  A : (y : Set) {x : Set} → Set

@@ -1,0 +1,3 @@
+postulate
+  x : C
+  y : λ a → a

@@ -1,0 +1,4 @@
+postulate
+  A : Set
+open
+ R public

@@ -1,0 +1,2 @@
+record
+  R : Set where

@@ -1,0 +1,4 @@
+postulate
+  A : Set
+g : A
+postulate B : _

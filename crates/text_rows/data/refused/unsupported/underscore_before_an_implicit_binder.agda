@@ -1,0 +1,2 @@
+postulate
+  A : (y : _) {x : Set} → Set
