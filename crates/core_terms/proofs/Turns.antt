@@ -1,78 +1,128 @@
 -- One turn of a change of variables, over a pool, a table of results and a list of tasks.
-use Rattle.std.specs.Prelude.{◌≡◌, ℕ, ◌+◌, ◌*◌, ◌<◌, List, [], ◌∷◌, ◌++◌, length, drop, Option, Some, None, IsSome}
+use Rattle.std.specs.Prelude.{◌≡◌, ℕ, ◌+◌, ◌<◌, ◌≤◌, List, [], ◌∷◌, ◌++◌, length, Option, Some, None, IsSome}
 use Rattle.std.specs.List.{AllByRecursion}
-use Rattle.std.proofs.Common.{refl, sym, ap, ap₂, ◌∙◌, arith, subst, inl, inr, ⊎_elim, take-append-drop, add-zero, append_assoc}
-use Rattle.core_rules.specs.Term.{Term, Var, Sort, Pi, Lam, App, Def, Fam, Con, Proj, Meta, size}
-use Rattle.core_rules.specs.Substitution.{over}
+use Rattle.std.proofs.Common.{zero, suc, refl, sym, ap, ◌∙◌, arith, subst, inl, inr, ⊎_elim, add-zero, append_assoc}
+use Rattle.core_rules.specs.Term.{Term, Terms, Var, Sort, Pi, Lam, App, Def, Fam, Con, Proj, Meta, End, And}
+use Rattle.core_rules.specs.Substitution.{over, over_all}
 use Rattle.core_terms.specs.declared.node.Node.{Node}
 use Rattle.core_terms.specs.declared.node.Node.TheVariants as N
 use Rattle.core_terms.specs.declared.node.Parts.TheVariants.{Variable, Alone, Two}
 use Rattle.core_terms.specs.declared.change.Task.{Task}
 use Rattle.core_terms.specs.declared.change.Task.TheVariants.{Make, Join}
+use Rattle.core_terms.specs.Lists.{items, IsList, IsList-over, over_items}
+use Rattle.core_terms.specs.Reach.{reach, reach_all}
 use Rattle.core_terms.specs.Node.{parts_of, with_two}
-use Rattle.core_terms.specs.Pool.{Pool, tree, node_tree, Below, Extends, StandsFor}
+use Rattle.core_terms.specs.Pool.{Pool, tree, node_tree, IsArgs, Below, Extends, StandsFor}
 use Rattle.core_terms.specs.Growth.{Extends-refl, Extends-length, Extends-tree, Extends-StandsFor}
 use Rattle.core_terms.specs.Table.{Results, found, Has, Puts}
-use Rattle.core_terms.specs.Change.{Fits, Joins, IsTask, key, Comes, PartsCome, AllPartsCome, State, weight, weigh, Turn}
-use Rattle.core_terms.proofs.Trees.{node_tree-same, node_tree-append, Below-append}
+use Rattle.core_terms.specs.Change.{Keeps, Fits, Joins, IsTask, key, Comes, PartsCome, AllPartsCome, State, turns, weight, weigh, Turn}
+use Rattle.core_terms.proofs.Trees.{node_tree-same, Below-same}
 
 -- ---- the parts of a node
 
-module _ (g : ℕ → Term) (ids : List ℕ) where
-  pub variable_tree : (n : Node) (i : ℕ) → parts_of n ≡ Variable i → node_tree g ids n ≡ Var i
+module _ (g : ℕ → Term) where
+  pub variable_tree : (n : Node) (i : ℕ) → parts_of n ≡ Variable i → node_tree g n ≡ Var i
   variable_tree (N.Var j) i e = cc
   variable_tree (N.Sort j) i e = cc
   variable_tree (N.Pi b x s t) i e = cc
+  variable_tree (N.Lam b x s t) i e = cc
   variable_tree (N.App b t u) i e = cc
   variable_tree (N.Def k) i e = cc
+  variable_tree (N.Fam k) i e = cc
+  variable_tree (N.Con k a) i e = cc
+  variable_tree (N.Proj k t) i e = cc
+  variable_tree (N.Meta m a) i e = cc
 
-  pub over_alone : (f : ℕ → ℕ → Term) (d : ℕ) (n : Node) → parts_of n ≡ Alone → over f d (node_tree g ids n) ≡ node_tree g ids n
+  pub over_alone : (f : ℕ → ℕ → Term) (d : ℕ) (n : Node) → parts_of n ≡ Alone → over f d (node_tree g n) ≡ node_tree g n
   over_alone f d (N.Sort j) e = refl
   over_alone f d (N.Def k) e = refl
+  over_alone f d (N.Fam k) e = refl
   over_alone f d (N.Var j) e = cc
   over_alone f d (N.Pi b x s t) e = cc
+  over_alone f d (N.Lam b x s t) e = cc
   over_alone f d (N.App b t u) e = cc
+  over_alone f d (N.Con k a) e = cc
+  over_alone f d (N.Proj k t) e = cc
+  over_alone f d (N.Meta m a) e = cc
 
-  pub over_two : (f : ℕ → ℕ → Term) (d : ℕ) (h : ℕ → Term) (ids' : List ℕ) (n : Node) (s t k s' t' : ℕ) → parts_of n ≡ Two s t k → h s' ≡ over f d (g s) → h t' ≡ over f (d + k) (g t)
-      → node_tree h ids' (with_two s' t' n) ≡ over f d (node_tree g ids n)
-  over_two f d h ids' (N.Pi b x u v) s t k s' t' e ks kt = cc
-  over_two f d h ids' (N.App b u v) s t k s' t' e ks kt = cc (add-zero d)
-  over_two f d h ids' (N.Var i) s t k s' t' e ks kt = cc
-  over_two f d h ids' (N.Sort i) s t k s' t' e ks kt = cc
-  over_two f d h ids' (N.Def i) s t k s' t' e ks kt = cc
+  module _ (m : ℕ) (s t k : ℕ) where
+    pub below_two : (n : Node) → parts_of n ≡ Two s t k → Below g m n → (s < m) × (t < m)
+    below_two (N.Pi b x u v) e h = let p : u ≡ s = cc in let q : v ≡ t = cc in (rw (← p) h.0, rw (← q) h.1)
+    below_two (N.Lam b x u v) e h = let p : u ≡ s = cc in let q : v ≡ t = cc in (rw (← p) h.0, rw (← q) h.1)
+    below_two (N.App b u v) e h = let p : u ≡ s = cc in let q : v ≡ t = cc in (rw (← p) h.0, rw (← q) h.1)
+    below_two (N.Con c a) e h = let p : a ≡ s = cc in let q : a ≡ t = cc in (rw (← p) h.within, rw (← q) h.within)
+    below_two (N.Proj c u) e h = let p : u ≡ s = cc in let q : u ≡ t = cc in (rw (← p) h, rw (← q) h)
+    below_two (N.Meta c a) e h = let p : a ≡ s = cc in let q : a ≡ t = cc in (rw (← p) h.within, rw (← q) h.within)
+    below_two (N.Var i) e h = absurd cc
+    below_two (N.Sort i) e h = absurd cc
+    below_two (N.Def i) e h = absurd cc
+    below_two (N.Fam i) e h = absurd cc
 
-  pub size_two : (n : Node) (s t k : ℕ) → parts_of n ≡ Two s t k → size (node_tree g ids n) ≡ 1 + size (g s) + size (g t)
-  size_two (N.Pi b x u v) s t k e = cc
-  size_two (N.App b u v) s t k e = cc
-  size_two (N.Var i) s t k e = cc
-  size_two (N.Sort i) s t k e = cc
-  size_two (N.Def i) s t k e = cc
+    -- the node with changed parts, whose trees h gives
+    module _ (f : ℕ → ℕ → Term) (d : ℕ) (h : ℕ → Term) (s' t' : ℕ) (ks : h s' ≡ over f d (g s)) (kt : h t' ≡ over f (d + k) (g t)) where
+      changed_items : (a : ℕ) → IsArgs g m a → a ≡ s → items (h s') ≡ over_all f d (items (g a))
+      changed_items a l e = ap items (ks ∙ ap (λ i. over f d (g i)) (sym e)) ∙ over_items f d (g a) l.list
 
-pub below_two : (m : ℕ) (ids : List ℕ) (n : Node) (s t k : ℕ) → parts_of n ≡ Two s t k → Below m ids n → (s < m) × (t < m)
-below_two m ids (N.Pi b x u v) s t k e h = let p : u ≡ s = cc in let q : v ≡ t = cc in (rw (← p) h.0, rw (← q) h.1)
-below_two m ids (N.App b u v) s t k e h = let p : u ≡ s = cc in let q : v ≡ t = cc in (rw (← p) h.0, rw (← q) h.1)
-below_two m ids (N.Var i) s t k e h = absurd cc
-below_two m ids (N.Sort i) s t k e h = absurd cc
-below_two m ids (N.Def i) s t k e h = absurd cc
+      pub over_two : (n : Node) → parts_of n ≡ Two s t k → Below g m n → node_tree h (with_two s' t' n) ≡ over f d (node_tree g n)
+      over_two (N.Pi b x u v) e l = cc
+      over_two (N.Lam b x u v) e l = cc
+      over_two (N.App b u v) e l = cc (add-zero d)
+      over_two (N.Con c a) e l = let p : a ≡ s = cc in cc (changed_items a l p)
+      over_two (N.Proj c u) e l = cc
+      over_two (N.Meta c a) e l = let p : a ≡ s = cc in cc (changed_items a l p)
+      over_two (N.Var i) e l = absurd cc
+      over_two (N.Sort i) e l = absurd cc
+      over_two (N.Def i) e l = absurd cc
+      over_two (N.Fam i) e l = absurd cc
 
-pub below_with_two : (m : ℕ) (ids : List ℕ) (n : Node) (s t k s' t' : ℕ) → parts_of n ≡ Two s t k → s' < m → t' < m → Below m ids (with_two s' t' n)
-below_with_two m ids (N.Pi b x u v) s t k s' t' e h i = (h, i)
-below_with_two m ids (N.App b u v) s t k s' t' e h i = (h, i)
-below_with_two m ids (N.Var i) s t k s' t' e h j = absurd cc
-below_with_two m ids (N.Sort i) s t k s' t' e h j = absurd cc
-below_with_two m ids (N.Def i) s t k s' t' e h j = absurd cc
+      module _ (m' : ℕ) (ls : s' < m') (lt : t' < m') where
+        changed_args : (a : ℕ) → IsArgs g m a → a ≡ s → IsArgs h m' s'
+        changed_args a l e = record { within = ls; list = subst IsList (ap (λ i. over f d (g i)) e ∙ sym ks) (IsList-over f d (g a) l.list) }
 
-size-pos : (t : Term) → 0 < size t
-size-pos (Var i) = omega arith
-size-pos (Sort n) = omega arith
-size-pos (Pi b x s t) = omega arith
-size-pos (Lam b x s t) = omega arith
-size-pos (App b t u) = omega arith
-size-pos (Def f) = omega arith
-size-pos (Fam d) = omega arith
-size-pos (Con k ts) = omega arith
-size-pos (Proj f t) = omega arith
-size-pos (Meta m ts) = omega arith
+        pub below_with_two : (n : Node) → parts_of n ≡ Two s t k → Below g m n → Below h m' (with_two s' t' n)
+        below_with_two (N.Pi b x u v) e l = (ls, lt)
+        below_with_two (N.Lam b x u v) e l = (ls, lt)
+        below_with_two (N.App b u v) e l = (ls, lt)
+        below_with_two (N.Con c a) e l = let p : a ≡ s = cc in changed_args a l p
+        below_with_two (N.Proj c u) e l = ls
+        below_with_two (N.Meta c a) e l = let p : a ≡ s = cc in changed_args a l p
+        below_with_two (N.Var i) e l = absurd cc
+        below_with_two (N.Sort i) e l = absurd cc
+        below_with_two (N.Def i) e l = absurd cc
+        below_with_two (N.Fam i) e l = absurd cc
+
+turns-grow : (a b : ℕ) → a ≤ b → turns a ≤ turns b
+turns-grow zero zero l = omega arith
+turns-grow zero (suc b) l = omega arith
+turns-grow (suc a) zero l = absurd (omega arith)
+turns-grow (suc a) (suc b) l = omega (arith, turns-grow a b (omega arith))
+
+turns-pos : (t : ℕ) → 0 < turns t
+turns-pos zero = omega arith
+turns-pos (suc t) = omega arith
+
+turns_two : (a b t : ℕ) → a < t → b < t → 1 + turns a + turns b < turns t
+turns_two a b zero l k = absurd (omega arith)
+turns_two a b (suc t) l k = omega (arith, turns-grow a t (omega arith), turns-grow b t (omega arith))
+
+-- ---- what a change leaves
+
+mutual
+  pub over_kept : (f : ℕ → ℕ → Term) (n d : ℕ) (t : Term) → Keeps f n → reach t ≤ d + n → over f d t ≡ t
+  over_kept f n d (Var i) k l = k d i (omega arith)
+  over_kept f n d (Sort j) k l = refl
+  over_kept f n d (Pi b x a t) k l = cc (over_kept f n d a k (omega arith), over_kept f n (d + 1) t k (omega arith))
+  over_kept f n d (Lam b x a t) k l = cc (over_kept f n d a k (omega arith), over_kept f n (d + 1) t k (omega arith))
+  over_kept f n d (App b t u) k l = cc (over_kept f n d t k (omega arith), over_kept f n d u k (omega arith))
+  over_kept f n d (Def j) k l = refl
+  over_kept f n d (Fam j) k l = refl
+  over_kept f n d (Con j ts) k l = cc (over_all_kept f n d ts k l)
+  over_kept f n d (Proj j t) k l = cc (over_kept f n d t k l)
+  over_kept f n d (Meta j ts) k l = cc (over_all_kept f n d ts k l)
+
+  over_all_kept : (f : ℕ → ℕ → Term) (n d : ℕ) (ts : Terms) → Keeps f n → reach_all ts ≤ d + n → over_all f d ts ≡ ts
+  over_all_kept f n d End k l = refl
+  over_all_kept f n d (And t ts) k l = cc (over_kept f n d t k (omega arith), over_all_kept f n d ts k (omega arith))
 
 -- ---- lists of facts
 
@@ -81,7 +131,7 @@ module _ {A : Type 0} (P : A → Type 0) where
   all_first [] ys h = tt
   all_first (x ∷ xs) ys h = (h.0, all_first xs ys h.1)
 
-  all_append : (xs ys : List A) → AllByRecursion P xs → AllByRecursion P ys → AllByRecursion P (xs ++ ys)
+  pub all_append : (xs ys : List A) → AllByRecursion P xs → AllByRecursion P ys → AllByRecursion P (xs ++ ys)
   all_append [] ys h k = k
   all_append (x ∷ xs) ys h k = (h.0, all_append xs ys h.1 k)
 
@@ -129,22 +179,16 @@ result_there f p q m t d r g fits l e = subst (λ u. StandsFor q r (over f d u))
 -- ---- tasks as the pool grows
 
 Joins-stays : {p q : Pool} {t d : ℕ} {n : Node} {a b e : ℕ} → Extends p q → Joins p t d n a b e → Joins q t d n a b e
-Joins-stays {p} {q} {t} {d} {n} {a} {b} {e} g h = record {
-  within = omega (arith, Extends-length g, h.within);
-  below = subst (λ ids. Below t ids n) longer (Below-append t p.ids more n h.below);
-  is = Extends-tree t g h.within ∙ h.is
-      ∙ node_tree-same (tree p) (tree q) t (λ i l. sym (Extends-tree i g (omega (arith, l, h.within)))) p.ids n h.below
-      ∙ sym (node_tree-append (tree q) t p.ids more n h.below) ∙ ap (λ ids. node_tree (tree q) ids n) longer;
-  binds = h.binds;
-  parts = h.parts;
-  under = h.under;
-}
-  where
-    more : List ℕ
-    more = drop (length p.ids) q.ids
-
-    longer : p.ids ++ drop (length p.ids) q.ids ≡ q.ids
-    longer = ap (λ is. is ++ drop (length p.ids) q.ids) (sym g.ids) ∙ take-append-drop (length p.ids) q.ids
+Joins-stays {p} {q} {t} {d} {n} {a} {b} {e} g h =
+    let same : (i : ℕ) → i < t → tree p i ≡ tree q i = λ i l. sym (Extends-tree i g (omega (arith, l, h.within))) in
+    record {
+      within = omega (arith, Extends-length g, h.within);
+      below = Below-same (tree p) (tree q) t same n h.below;
+      is = Extends-tree t g h.within ∙ (h.is ∙ node_tree-same (tree p) (tree q) t same n h.below);
+      binds = h.binds;
+      parts = h.parts;
+      under = h.under;
+    }
 
 IsTask-stays : {p q : Pool} (w : Task) → Extends p q → IsTask p w → IsTask q w
 IsTask-stays {p} {q} (Make t d) g h = omega (arith, Extends-length g, h)
@@ -154,21 +198,13 @@ tasks-stay : {p q : Pool} (ws : List Task) → Extends p q → AllByRecursion (I
 tasks-stay {p} {q} [] g h = tt
 tasks-stay {p} {q} (w ∷ ws) g h = (IsTask-stays w g h.0, tasks-stay ws g h.1)
 
-weight-stays : {p q : Pool} (w : Task) → Extends p q → IsTask p w → weight (tree q) w ≡ weight (tree p) w
-weight-stays {p} {q} (Make t d) g h = ap (λ u. 2 * size u) (Extends-tree t g h)
-weight-stays {p} {q} (Join t d n a b e) g h = refl
+weight-pos : (w : Task) → 0 < weight w
+weight-pos (Make t d) = turns-pos t
+weight-pos (Join t d n a b e) = omega arith
 
-weigh-stays : {p q : Pool} (ws : List Task) → Extends p q → AllByRecursion (IsTask p) ws → weigh (tree q) ws ≡ weigh (tree p) ws
-weigh-stays {p} {q} [] g h = refl
-weigh-stays {p} {q} (w ∷ ws) g h = ap₂ (λ x y. x + y) (weight-stays w g h.0) (weigh-stays ws g h.1)
-
-weight-pos : (f : ℕ → Term) (w : Task) → 0 < weight f w
-weight-pos f (Make t d) = omega (arith, size-pos (f t))
-weight-pos f (Join t d n a b e) = omega arith
-
-weigh-append : (f : ℕ → Term) (ws vs : List Task) → weigh f (ws ++ vs) ≡ weigh f ws + weigh f vs
-weigh-append f [] vs = omega arith
-weigh-append f (w ∷ ws) vs = omega (arith, weigh-append f ws vs)
+weigh-append : (ws vs : List Task) → weigh (ws ++ vs) ≡ weigh ws + weigh vs
+weigh-append [] vs = omega arith
+weigh-append (w ∷ ws) vs = omega (arith, weigh-append ws vs)
 
 -- ---- what comes
 
@@ -223,9 +259,19 @@ module _ (m : Results) (t d : ℕ) (n : Node) (a b e : ℕ) where
 
 -- ---- turns
 
--- the node with the results of its parts may be added
-pub below_made : (f : ℕ → ℕ → Term) (p : Pool) (m : Results) (t d a b e a' b' : ℕ) (n : Node) → Fits f m p → Joins p t d n a b e → found m a d ≡ Some a' → found m b e ≡ Some b' → Below (length p.trees) p.ids (with_two a' b' n)
-below_made f p m t d a b e a' b' n fits h ka kb = below_with_two (length p.trees) p.ids n a b h.binds a' b' h.parts (fits.at a d a' ka).1.within (fits.at b e b' kb).1.within
+-- the node with the results of its parts may be added, and stands for what the change makes
+module _ (f : ℕ → ℕ → Term) (p : Pool) (m : Results) (t d a b e a' b' : ℕ) (n : Node) (fits : Fits f m p) (h : Joins p t d n a b e) (ka : found m a d ≡ Some a') (kb : found m b e ≡ Some b') where
+  first_is : tree p a' ≡ over f d (tree p a)
+  first_is = (fits.at a d a' ka).1.is
+
+  second_is : tree p b' ≡ over f (d + h.binds) (tree p b)
+  second_is = (fits.at b e b' kb).1.is ∙ ap (λ j. over f j (tree p b)) h.under
+
+  pub below_made : Below (tree p) (length p.trees) (with_two a' b' n)
+  below_made = below_with_two (tree p) t a b h.binds f d (tree p) a' b' first_is second_is (length p.trees) (fits.at a d a' ka).1.within (fits.at b e b' kb).1.within n h.parts h.below
+
+  pub made-join : (q : Pool) (r : ℕ) → StandsFor q r (node_tree (tree p) (with_two a' b' n)) → StandsFor q r (over f d (tree p t))
+  made-join q r s = subst (StandsFor q r) (over_two (tree p) t a b h.binds f d (tree p) a' b' first_is second_is n h.parts h.below ∙ ap (over f d) (sym h.is)) s
 
 -- what is known of a node that is the last to wait
 pub join_state : (f : ℕ → ℕ → Term) (p : Pool) (m : Results) (ws : List Task) (w : Task) (t d : ℕ) (n : Node) (a b e : ℕ) → w ≡ Join t d n a b e → State f p m (ws ++ w ∷ [])
@@ -234,18 +280,15 @@ join_state f p m ws w t d n a b e k h =
     let s : State f p m (ws ++ Join t d n a b e ∷ []) = subst (λ v. State f p m (ws ++ v ∷ [])) k h in
     (all_last (IsTask p) ws (Join t d n a b e) s.tasks, parts_there m t d n a b e ws s.parts)
 
-pub made-alone : (f : ℕ → ℕ → Term) (p : Pool) (t d : ℕ) (n : Node) → t < length p.trees → tree p t ≡ node_tree (tree p) p.ids n → parts_of n ≡ Alone → StandsFor p t (over f d (tree p t))
-made-alone f p t d n l is e = record { within = l; is = is ∙ sym (over_alone (tree p) p.ids f d n e) ∙ ap (over f d) (sym is) }
+pub made-alone : (f : ℕ → ℕ → Term) (p : Pool) (t d : ℕ) (n : Node) → t < length p.trees → tree p t ≡ node_tree (tree p) n → parts_of n ≡ Alone → StandsFor p t (over f d (tree p t))
+made-alone f p t d n l is e = record { within = l; is = is ∙ sym (over_alone (tree p) f d n e) ∙ ap (over f d) (sym is) }
 
-pub made-variable : (f : ℕ → ℕ → Term) (p q : Pool) (t d i r : ℕ) (n : Node) → tree p t ≡ node_tree (tree p) p.ids n → parts_of n ≡ Variable i → StandsFor q r (f d i) → StandsFor q r (over f d (tree p t))
-made-variable f p q t d i r n is e s = subst (λ u. StandsFor q r (over f d u)) (sym (is ∙ variable_tree (tree p) p.ids n i e)) s
+pub made-variable : (f : ℕ → ℕ → Term) (p q : Pool) (t d i r : ℕ) (n : Node) → tree p t ≡ node_tree (tree p) n → parts_of n ≡ Variable i → StandsFor q r (f d i) → StandsFor q r (over f d (tree p t))
+made-variable f p q t d i r n is e s = subst (λ u. StandsFor q r (over f d u)) (sym (is ∙ variable_tree (tree p) n i e)) s
 
-pub made-join : (f : ℕ → ℕ → Term) (p q : Pool) (m : Results) (t d a b e a' b' r : ℕ) (n : Node) → Fits f m p → Joins p t d n a b e → found m a d ≡ Some a' → found m b e ≡ Some b'
-    → StandsFor q r (node_tree (tree p) p.ids (with_two a' b' n)) → StandsFor q r (over f d (tree p t))
-made-join f p q m t d a b e a' b' r n fits h ka kb s =
-    let sa : tree p a' ≡ over f d (tree p a) = (fits.at a d a' ka).1.is in
-    let sb : tree p b' ≡ over f (d + h.binds) (tree p b) = (fits.at b e b' kb).1.is ∙ ap (λ j. over f j (tree p b)) h.under in
-    subst (StandsFor q r) (over_two (tree p) p.ids f d (tree p) p.ids n a b h.binds a' b' h.parts sa sb ∙ ap (over f d) (sym h.is)) s
+-- a term that reaches no variable that the change concerns
+pub made-kept : (f : ℕ → ℕ → Term) (n : ℕ) (p : Pool) (t d : ℕ) → t < length p.trees → Keeps f n → reach (tree p t) ≤ d + n → StandsFor p t (over f d (tree p t))
+made-kept f n p t d l k r = record { within = l; is = sym (over_kept f n d (tree p t) k r) }
 
 -- the last task goes
 module _ (f : ℕ → ℕ → Term) (p : Pool) (m : Results) (ws : List Task) (w : Task) (h : State f p m (ws ++ w ∷ [])) where
@@ -259,7 +302,7 @@ module _ (f : ℕ → ℕ → Term) (p : Pool) (m : Results) (ws : List Task) (w
           parts = AllPartsCome-drop n w done ws (AllPartsCome-grows m n grows (ws ++ w ∷ []) h.parts);
         };
         comes = λ t d k. Comes-drop n w done ws t d (Comes-grows m n grows (ws ++ w ∷ []) t d k);
-        less = omega (arith, weigh-stays ws g first, weigh-append (tree p) ws (w ∷ []), weight-pos (tree p) w);
+        less = omega (arith, weigh-append ws (w ∷ []), weight-pos w);
       }
 
   pub found-turn : Has m (key w).0 (key w).1 → Turn f p m (ws ++ w ∷ []) p m ws
@@ -269,13 +312,12 @@ module _ (f : ℕ → ℕ → Term) (p : Pool) (m : Results) (ws : List Task) (w
   put-turn q n t d r e g l s u =
       dropped q n g (Puts-grows u) (Puts-Fits g h.fits l s u) (subst (λ (k : ℕ × ℕ). Has n k.0 k.1) (sym e) (Puts-Has u))
 
-pub open-turn : (f : ℕ → ℕ → Term) (p : Pool) (m : Results) (ws : List Task) (t d : ℕ) (n : Node) (a b e k : ℕ) → State f p m (ws ++ Make t d ∷ []) → Below t p.ids n → tree p t ≡ node_tree (tree p) p.ids n
+pub open-turn : (f : ℕ → ℕ → Term) (p : Pool) (m : Results) (ws : List Task) (t d : ℕ) (n : Node) (a b e k : ℕ) → State f p m (ws ++ Make t d ∷ []) → Below (tree p) t n → tree p t ≡ node_tree (tree p) n
     → parts_of n ≡ Two a b k → e ≡ d + k → Turn f p m (ws ++ Make t d ∷ []) p m (ws ++ opened m t d n a b e)
 open-turn f p m ws t d n a b e k h below is parts under =
     let l : t < length p.trees = all_last (IsTask p) ws (Make t d) h.tasks in
-    let two = below_two t p.ids n a b k parts below in
+    let two = below_two (tree p) t a b k n parts below in
     let join : Joins p t d n a b e = record { within = l; below = below; is = is; binds = k; parts = parts; under = under } in
-    let size_is : size (tree p t) ≡ 1 + size (tree p a) + size (tree p b) = ap size is ∙ size_two (tree p) p.ids n a b k parts in
     record {
       state = record {
         fits = h.fits;
@@ -283,5 +325,5 @@ open-turn f p m ws t d n a b e k h below is parts under =
         parts = AllPartsCome-open m t d n a b e ws h.parts;
       };
       comes = λ i j c. Comes-open m t d n a b e ws i j c;
-      less = omega (arith, weigh-append (tree p) ws (Make t d ∷ []), weigh-append (tree p) ws (opened m t d n a b e), size_is);
+      less = omega (arith, weigh-append ws (Make t d ∷ []), weigh-append ws (opened m t d n a b e), turns_two a b t two.0 two.1);
     }

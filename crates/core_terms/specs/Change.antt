@@ -1,7 +1,7 @@
 -- How far a change of the variables of a term has come, whose pending nodes stand in a list.
-use Rattle.std.specs.Prelude.{◌≡◌, ℕ, ◌+◌, ◌*◌, ◌<◌, ◌⊎◌, List, [], ◌∷◌, length, Some}
+use Rattle.std.specs.Prelude.{◌≡◌, ℕ, ◌+◌, ◌*◌, ◌<◌, ◌⊎◌, List, [], ◌∷◌, length, Some, zero, suc}
 use Rattle.std.specs.List.{AllByRecursion}
-use Rattle.core_rules.specs.Term.{Term, size}
+use Rattle.core_rules.specs.Term.{Term, Var}
 use Rattle.core_rules.specs.Substitution.{over}
 use Rattle.core_terms.specs.declared.node.Node.{Node}
 use Rattle.core_terms.specs.declared.node.Parts.TheVariants.{Two}
@@ -11,6 +11,10 @@ use Rattle.core_terms.specs.Node.{parts_of}
 use Rattle.core_terms.specs.Pool.{Pool, tree, node_tree, Below, StandsFor}
 use Rattle.core_terms.specs.Table.{Results, found, Has}
 
+-- the change f leaves the first n variables as they are, beside those of the binders
+abbrev pub Keeps : (ℕ → ℕ → Term) → ℕ → Type 0
+Keeps f n = (d i : ℕ) → i < d + n → f d i ≡ Var i
+
 -- each result is what the change f makes of its node under its binders
 pub record Fits (f : ℕ → ℕ → Term) (m : Results) (p : Pool) : Type 0 where
   pub at : (t d r : ℕ) → found m t d ≡ Some r → (t < length p.trees) × StandsFor p r (over f d (tree p t))
@@ -18,8 +22,8 @@ pub record Fits (f : ℕ → ℕ → Term) (m : Results) (p : Pool) : Type 0 whe
 -- n is the node of t, with the parts a and b; and e binders stand around b where d stand around t
 pub record Joins (p : Pool) (t d : ℕ) (n : Node) (a b e : ℕ) : Type 0 where
   pub within : t < length p.trees
-  pub below : Below t p.ids n
-  pub is : tree p t ≡ node_tree (tree p) p.ids n
+  pub below : Below (tree p) t n
+  pub is : tree p t ≡ node_tree (tree p) n
   pub binds : ℕ
   pub parts : parts_of n ≡ Two a b binds
   pub under : e ≡ d + binds
@@ -53,17 +57,22 @@ pub record State (f : ℕ → ℕ → Term) (p : Pool) (m : Results) (ws : List 
   pub tasks : AllByRecursion (IsTask p) ws
   pub parts : AllPartsCome m ws
 
--- a bound on the turns that a task takes, with those that it makes
-abbrev pub weight : (ℕ → Term) → Task → ℕ
-weight f (Make t d) = 2 * size (f t)
-weight f (Join t d n a b e) = 1
+-- a bound on the turns that a node takes, whose parts lie below it
+abbrev pub turns : ℕ → ℕ
+turns zero = 1
+turns (suc t) = 2 + 2 * turns t
 
-abbrev pub weigh : (ℕ → Term) → List Task → ℕ
-weigh f [] = 0
-weigh f (w ∷ ws) = weight f w + weigh f ws
+-- a bound on the turns that a task takes, with those that it makes
+abbrev pub weight : Task → ℕ
+weight (Make t d) = turns t
+weight (Join t d n a b e) = 1
+
+abbrev pub weigh : List Task → ℕ
+weigh [] = 0
+weigh (w ∷ ws) = weight w + weigh ws
 
 -- one turn of a change: nothing that comes is lost, and less is left to do
 pub record Turn (f : ℕ → ℕ → Term) (p : Pool) (m : Results) (ws : List Task) (q : Pool) (n : Results) (vs : List Task) : Type 0 where
   pub state : State f q n vs
   pub comes : (t d : ℕ) → Comes m ws t d → Comes n vs t d
-  pub less : weigh (tree q) vs < weigh (tree p) ws
+  pub less : weigh vs < weigh ws

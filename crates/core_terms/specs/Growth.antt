@@ -1,12 +1,10 @@
 -- What stays as a pool grows: lemmas for callers, and for the laws of traits.
 use Rattle.std.specs.Prelude.{◌≡◌, ℕ, ◌<◌, ◌≤◌, List, length, get_or, take}
-use Rattle.std.specs.List.{AllByRecursion}
-use Rattle.std.proofs.Common.{arith, length-take, get_or-take, ap, sym, subst, ◌∙◌}
+use Rattle.std.proofs.Common.{arith, length-take, get_or-take, ap, sym, ◌∙◌}
 use Rattle.std.proofs.Math.Seq.{take-length}
 use Rattle.std.proofs.lemmas.Grind.{common_steps}
 use Rattle.core_rules.specs.Term.{Term, Sort}
-use Rattle.core_rules.specs.Substitution.{subst_var}
-use Rattle.core_terms.specs.Pool.{Pool, tree, Extends, StandsFor, Marks}
+use Rattle.core_terms.specs.Pool.{Pool, tree, Extends, StandsFor}
 
 pub first-length : {A : Type 0} (xs ys : List A) → take (length xs) ys ≡ xs → length xs ≤ length ys
 first-length xs ys h = omega (arith, length-take (length xs) ys, ap length h)
@@ -20,14 +18,10 @@ first-trans {A} xs ys zs h k = let l : length xs ≤ length ys = first-length xs
     sym (take_take (length xs) (length ys) zs l) ∙ ap (take (length xs)) k ∙ h
 
 pub Extends-refl : (p : Pool) → Extends p p
-Extends-refl p = record { trees = take-length p.trees; ids = take-length p.ids; ends = take-length p.ends }
+Extends-refl p = record { trees = take-length p.trees }
 
 pub Extends-trans : {p q r : Pool} → Extends p q → Extends q r → Extends p r
-Extends-trans {p} {q} {r} h k = record {
-  trees = first-trans p.trees q.trees r.trees h.trees k.trees;
-  ids = first-trans p.ids q.ids r.ids h.ids k.ids;
-  ends = first-trans p.ends q.ends r.ends h.ends k.ends;
-}
+Extends-trans {p} {q} {r} h k = record { trees = first-trans p.trees q.trees r.trees h.trees k.trees }
 
 pub Extends-length : {p q : Pool} → Extends p q → length p.trees ≤ length q.trees
 Extends-length {p} {q} h = first-length p.trees q.trees h.trees
@@ -39,16 +33,4 @@ Extends-tree {p} {q} t h l = sym (get_or-take (length p.trees) q.trees t (Sort 0
 pub Extends-StandsFor : {p q : Pool} {r : ℕ} {t : Term} → Extends p q → StandsFor p r t → StandsFor q r t
 Extends-StandsFor {p} {q} {r} h s = record { within = omega (arith, Extends-length h, s.within); is = Extends-tree r h s.within ∙ s.is }
 
--- a place to which a pool can be cut stays one
-pub Extends-Marks : {p q : Pool} {m : ℕ × ℕ} → Extends p q → Marks p m → Marks q m
-Extends-Marks {p} {q} {m} h k = record {
-  nodes = omega (arith, Extends-length h, k.nodes);
-  known = omega (arith, first-length p.ends q.ends h.ends, k.known);
-  ids = omega (arith, first-length p.ids q.ids h.ids, k.ids);
-  ends = subst (λ es. AllByRecursion (λ e. e ≤ m.1) es) (ap (take m.0) (sym h.ends) ∙ take_take m.0 (length p.ends) q.ends k.known) k.ends;
-}
-
-pub subst-stays : (at by : ℕ) (p q : Pool) → Extends p q → by < length p.trees → ◌≡◌ {A = ℕ → ℕ → Term} (subst_var at (tree q by)) (subst_var at (tree p by))
-subst-stays at by p q h l = ap (subst_var at) (Extends-tree by h l)
-
-pub ruleset growth = (Extends-refl, Extends-trans, Extends-length, Extends-tree, Extends-StandsFor, Extends-Marks)
+pub ruleset growth = (Extends-refl, Extends-trans, Extends-length, Extends-tree, Extends-StandsFor)

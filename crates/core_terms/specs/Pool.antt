@@ -1,98 +1,131 @@
--- What a pool is to its callers: the tree that each id stands for, and the argument lists.
-use Rattle.std.specs.Prelude.{◌≡◌, ℕ, ◌+◌, ◌<◌, ◌≤◌, List, [], ◌∷◌, ◌++◌, length, get_or, take, slice_range, map, refl}
-use Rattle.std.specs.List.{AllByRecursion}
-use Rattle.std.specs.Coded.{Coded, code_by, coded×, coded_list, coded_ℕ}
-use Rattle.core_rules.specs.Term.{Term, Var, Sort, Pi, App, Def}
+-- What a pool is to its callers: the tree that each id stands for. An argument list is a tree too.
+use Rattle.std.specs.Prelude.{◌≡◌, ℕ, ◌<◌, ◌≤◌, ◌^◌, List, [], ◌∷◌, ◌++◌, length, get_or, take, map, Option, Some, None, refl}
+use Rattle.std.specs.Coded.{Coded, code_by, coded_list}
+use Rattle.core_rules.specs.Term.{Term, Terms, Var, Sort, Pi, Lam, App, Def, Fam, Con, Proj, Meta, End, And, from_list, nameless}
 use Rattle.core_rules.specs.Stored.{coded_term}
 use Rattle.core_terms.specs.declared.node.Node.{Node}
 use Rattle.core_terms.specs.declared.node.Node.TheVariants as N
+use Rattle.core_terms.specs.declared.measures.Known.{Known}
+use Rattle.core_terms.specs.Lists.{list, items, IsList}
+use Rattle.core_terms.specs.Measures.{IsMeasured, nothing_known}
 
 pub record Pool : Type 0 where
   -- what each id stands for
   pub trees : List Term
-  -- the argument lists, one after another
-  pub ids : List ℕ
-  -- how far each node reaches into the argument lists, on which it depends where a pool can be cut
-  pub ends : List ℕ
 
 abbrev pub coded_pool : Coded Pool
-coded_pool =
-    code_by (List Term × (List ℕ × List ℕ)) (coded× (coded_list coded_term) (coded× (coded_list coded_ℕ) (coded_list coded_ℕ)))
-    (λ p. (p.trees, (p.ids, p.ends))) (λ t. record { trees = t.0; ids = t.1.0; ends = t.1.1 }) (λ _. refl)
+coded_pool = code_by (List Term) (coded_list coded_term) (λ p. p.trees) (λ t. record { trees = t }) (λ _. refl)
+
+-- the tree of id t among these
+abbrev pub tree_of : List Term → ℕ → Term
+tree_of ts t = get_or ts t (Sort 0)
 
 -- the tree of id t
 abbrev pub tree : Pool → ℕ → Term
 tree p t = get_or p.trees t (Sort 0)
 
--- the ids of an argument list
-abbrev pub row : List ℕ → ℕ × ℕ → List ℕ
-row ids a = slice_range ids a.0 a.1
+-- the items of the argument list a
+abbrev pub args : Pool → ℕ → Terms
+args p a = items (tree p a)
 
--- the tree of a node, where f gives those of its parts and ids holds its argument list
-abbrev pub node_tree : (ℕ → Term) → List ℕ → Node → Term
-node_tree f ids (N.Var i) = Var i
-node_tree f ids (N.Sort n) = Sort n
-node_tree f ids (N.Pi b x s t) = Pi b x (f s) (f t)
-node_tree f ids (N.App b t u) = App b (f t) (f u)
-node_tree f ids (N.Def k) = Def k
+-- the trees of these ids as an argument list
+abbrev pub list_of : Pool → List ℕ → Term
+list_of p ids = list (from_list (map (tree p) ids))
 
--- an argument list that stands in ids, of ids below n
-pub record IsRow (n : ℕ) (ids : List ℕ) (a : ℕ × ℕ) : Type 0 where
-  pub ordered : a.0 ≤ a.1
-  pub within : a.1 ≤ length ids
-  pub below : AllByRecursion (λ i. i < n) (row ids a)
+-- the tree of a node, where f gives those of its parts
+abbrev pub node_tree : (ℕ → Term) → Node → Term
+node_tree f (N.Var i) = Var i
+node_tree f (N.Sort n) = Sort n
+node_tree f (N.Pi b x s t) = Pi b x (f s) (f t)
+node_tree f (N.Lam b x s t) = Lam b x (f s) (f t)
+node_tree f (N.App b t u) = App b (f t) (f u)
+node_tree f (N.Def k) = Def k
+node_tree f (N.Fam k) = Fam k
+node_tree f (N.Con k a) = Con k (items (f a))
+node_tree f (N.Proj k t) = Proj k (f t)
+node_tree f (N.Meta m a) = Meta m (items (f a))
+
+-- a is an argument list with a number below n
+pub record IsArgs (f : ℕ → Term) (n a : ℕ) : Type 0 where
+  pub within : a < n
+  pub list : IsList (f a)
 
 -- the parts of a node are ids below n
-abbrev pub Below : ℕ → List ℕ → Node → Type 0
-Below n ids (N.Var i) = Unit {0}
-Below n ids (N.Sort k) = Unit {0}
-Below n ids (N.Pi b x s t) = (s < n) × (t < n)
-Below n ids (N.App b t u) = (t < n) × (u < n)
-Below n ids (N.Def k) = Unit {0}
+abbrev pub Below : (ℕ → Term) → ℕ → Node → Type 0
+Below f n (N.Var i) = Unit {0}
+Below f n (N.Sort k) = Unit {0}
+Below f n (N.Pi b x s t) = (s < n) × (t < n)
+Below f n (N.Lam b x s t) = (s < n) × (t < n)
+Below f n (N.App b t u) = (t < n) × (u < n)
+Below f n (N.Def k) = Unit {0}
+Below f n (N.Fam k) = Unit {0}
+Below f n (N.Con k a) = IsArgs f n a
+Below f n (N.Proj k t) = t < n
+Below f n (N.Meta m a) = IsArgs f n a
 
--- where a node's argument list ends
-abbrev pub end_of : Node → ℕ
-end_of (N.Var i) = 0
-end_of (N.Sort k) = 0
-end_of (N.Pi b x s t) = 0
-end_of (N.App b t u) = 0
-end_of (N.Def k) = 0
+-- the item t and the list b are what the list a begins with, and the rest of it
+pub record IsCell (p : Pool) (a t b : ℕ) : Type 0 where
+  pub is : args p a ≡ And (tree p t) (args p b)
+  pub item : t < length p.trees
+  pub rest : IsArgs (tree p) a b
 
--- the trees of nodes that stand behind those of the trees ts
-abbrev pub trees_after : List ℕ → List Term → List Node → List Term
-trees_after ids ts [] = ts
-trees_after ids ts (n ∷ ns) = trees_after ids (ts ++ node_tree (λ i. get_or ts i (Sort 0)) ids n ∷ []) ns
-
--- each node's parts lie below it, where the first of the nodes has number k
-abbrev pub AreBelow : ℕ → List ℕ → List Node → Type 0
-AreBelow k ids [] = Unit {0}
-AreBelow k ids (n ∷ ns) = Below k ids n × AreBelow (k + 1) ids ns
-
--- the pool that has these argument lists and nodes
-abbrev pub seen : List ℕ → List Node → Pool
-seen ids ns = record { trees = trees_after ids [] ns; ids = ids; ends = map end_of ns }
-
-abbrev pub no_terms : Pool
-no_terms = record { trees = []; ids = []; ends = [] }
+abbrev pub IsFirst : Pool → ℕ → Option (ℕ × ℕ) → Type 0
+IsFirst p a None = args p a ≡ End
+IsFirst p a (Some r) = IsCell p a r.0 r.1
 
 -- q has all that p has, at the same ids
 pub record Extends (p q : Pool) : Type 0 where
   pub trees : take (length p.trees) q.trees ≡ p.trees
-  pub ids : take (length p.ids) q.ids ≡ p.ids
-  pub ends : take (length p.ends) q.ends ≡ p.ends
 
 -- id r stands in p for the term t
 pub record StandsFor (p : Pool) (r : ℕ) (t : Term) : Type 0 where
   pub within : r < length p.trees
   pub is : tree p r ≡ t
 
--- a place to which p can be cut: so many nodes, and so many ids of argument lists, which is as far as these nodes reach
-pub record Marks (p : Pool) (m : ℕ × ℕ) : Type 0 where
-  pub nodes : m.0 ≤ length p.trees
-  pub known : m.0 ≤ length p.ends
-  pub ids : m.1 ≤ length p.ids
-  pub ends : AllByRecursion (λ e. e ≤ m.1) (take m.0 p.ends)
+-- n is the node at number i of the trees us
+pub record IsAt (us : List Term) (i : ℕ) (n : Node) : Type 0 where
+  pub below : Below (tree_of us) i n
+  pub is : tree_of us i ≡ node_tree (tree_of us) n
 
--- p cut to a mark
-abbrev pub cut_to : ℕ × ℕ → Pool → Pool
-cut_to m p = record { trees = take m.0 p.trees; ids = take m.1 p.ids; ends = take m.0 p.ends }
+-- the trees of nodes that stand behind those of the trees ts
+abbrev pub trees_after : List Term → List Node → List Term
+trees_after ts [] = ts
+trees_after ts (n ∷ ns) = trees_after (ts ++ node_tree (tree_of ts) n ∷ []) ns
+
+-- the parts of each of the nodes stand before it
+abbrev pub AllFollow : List Term → List Node → Type 0
+AllFollow ts [] = Unit {0}
+AllFollow ts (n ∷ ns) = Below (tree_of ts) (length ts) n × AllFollow (ts ++ node_tree (tree_of ts) n ∷ []) ns
+
+-- the pool that has these nodes
+abbrev pub seen : List Node → Pool
+seen ns = record { trees = trees_after [] ns }
+
+-- k tells of the tree at number i of the trees us: its measures, and the id of the same term without names
+pub record IsKnown (us : List Term) (i : ℕ) (k : Known) : Type 0 where
+  pub measured : IsMeasured (tree_of us i) k.measures
+  pub within : k.class ≤ i
+  pub class : tree_of us k.class ≡ nameless (tree_of us i)
+
+-- what is known is true of each of the trees
+pub record AreKnown (us : List Term) (ks : List Known) : Type 0 where
+  pub at : (i : ℕ) → i < length ks → IsKnown us i (get_or ks i nothing_known)
+
+-- c is the id of the term t without names, where this is another term
+abbrev pub ClassOf : Pool → Term → Option ℕ → Type 0
+ClassOf p t None = nameless t ≡ t
+ClassOf p t (Some c) = StandsFor p c (nameless t)
+
+-- nodes, with what is known of each, are those of a pool
+pub record ArePool (ns : List Node) (ks : List Known) : Type 0 where
+  pub follow : AllFollow [] ns
+  pub few : length ns ≤ 2 ^ 27
+  pub count : length ks ≡ length ns
+  pub known : AreKnown (trees_after [] ns) ks
+
+abbrev pub no_terms : Pool
+no_terms = record { trees = [] }
+
+-- p cut to its first n ids
+abbrev pub cut_to : ℕ → Pool → Pool
+cut_to n p = record { trees = take n p.trees }

@@ -1,17 +1,29 @@
--- The results of shifting one term, by the number of binders.
-use Rattle.std.specs.Prelude.{◌≡◌, ℕ, ◌<◌, length, Some}
+-- The results of shifting terms, by the number of binders.
+use Rattle.std.specs.Prelude.{◌≡◌, ℕ, ◌<◌, List, [], ◌∷◌, length, Some}
+use Rattle.std.specs.List.{AllByRecursion}
 use Rattle.std.proofs.Common.{arith, sym, subst}
 use Rattle.core_rules.specs.Substitution.{shift}
 use Rattle.core_terms.specs.Pool.{Pool, tree, Extends, StandsFor}
 use Rattle.core_terms.specs.Growth.{Extends-length, Extends-tree, Extends-StandsFor}
 use Rattle.core_terms.specs.Table.{Results, found}
 
-pub record IsShifted (m : Results) (t : ℕ) (p : Pool) : Type 0 where
-  pub within : t < length p.trees
-  pub at : (d r : ℕ) → found m t d ≡ Some r → StandsFor p r (shift (tree p t) 0 d)
+pub record AreShifted (m : Results) (p : Pool) : Type 0 where
+  pub at : (t d r : ℕ) → found m t d ≡ Some r → (t < length p.trees) × StandsFor p r (shift (tree p t) 0 d)
 
-pub IsShifted-stays : {m : Results} {t : ℕ} {p q : Pool} → Extends p q → IsShifted m t p → IsShifted m t q
-IsShifted-stays {m} {t} {p} {q} g h = record {
-  within = omega (arith, Extends-length g, h.within);
-  at = λ d r e. subst (λ u. StandsFor q r (shift u 0 d)) (sym (Extends-tree t g h.within)) (Extends-StandsFor g (h.at d r e));
+pub AreShifted-stays : {m : Results} {p q : Pool} → Extends p q → AreShifted m p → AreShifted m q
+AreShifted-stays {m} {p} {q} g h = record {
+  at = λ t d r e. let a = h.at t d r e in
+      (omega (arith, Extends-length g, a.0), subst (λ u. StandsFor q r (shift u 0 d)) (sym (Extends-tree t g a.0)) (Extends-StandsFor g a.1));
 }
+
+-- what a change that puts these items must find
+pub record IsReady (m : Results) (ids : List ℕ) (p : Pool) : Type 0 where
+  pub shifted : AreShifted m p
+  pub items : AllByRecursion (λ i. i < length p.trees) ids
+
+pub within-stays : (p q : Pool) (ids : List ℕ) → Extends p q → AllByRecursion (λ i. i < length p.trees) ids → AllByRecursion (λ i. i < length q.trees) ids
+within-stays p q [] g h = tt
+within-stays p q (i ∷ ids) g h = (omega (arith, Extends-length g, h.0), within-stays p q ids g h.1)
+
+pub IsReady-stays : {m : Results} {ids : List ℕ} {p q : Pool} → Extends p q → IsReady m ids p → IsReady m ids q
+IsReady-stays {m} {ids} {p} {q} g h = record { shifted = AreShifted-stays g h.shifted; items = within-stays p q ids g h.items }

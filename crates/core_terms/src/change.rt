@@ -1,9 +1,10 @@
 ghost use Rattle.std.specs.Prelude.{◌≡◌, ℕ, ◌<◌, length, IfOk, OnOk};
 ghost use Rattle.core_rules.specs.Term.{Term, Var};
 ghost use Rattle.core_terms.specs.Pool.{Pool, tree, Extends, StandsFor};
+ghost use Rattle.core_terms.specs.Change.{Keeps};
 
+use crate::NoMemory;
 use crate::ids::TermId;
-use crate::no_memory::NoMemory;
 use crate::node::Node;
 use crate::pool::TermPool;
 use std::alloc::Global;
@@ -15,6 +16,10 @@ pub(crate) trait Change {
 
     // what must stand in the pool, and what the change keeps of its own
     ghost ready: { Self → Pool → Type 0 };
+
+    /// The first of the variables that it concerns.
+    fn first(&self) -> u32
+        ensures { (p : Pool) → Keeps (term self.now p) result };
 
     /// The term for the variable `index`, which is the node `t`, under so many binders.
     fn variable(

@@ -3,7 +3,7 @@ ghost use Rattle.std.specs.Prelude.{◌≡◌};
 use std::marker::Model;
 
 /// The id of a term of a pool. Contracts see its number.
-#[derive(Clone, Copy, Debug, PartialEq, Eq)]
+#[derive(Clone, Copy, Debug, PartialEq, Eq, Hash)]
 pub struct TermId {
     number: u32,
 }
@@ -33,7 +33,7 @@ impl TermId {
 }
 
 /// The id of a name's text. Contracts see its number.
-#[derive(Clone, Copy, Debug, PartialEq, Eq)]
+#[derive(Clone, Copy, Debug, PartialEq, Eq, Hash)]
 pub struct NameId {
     number: u32,
 }
@@ -63,7 +63,7 @@ impl NameId {
 }
 
 /// The id of a postulate or a function of a signature. Contracts see its number.
-#[derive(Clone, Copy, Debug, PartialEq, Eq)]
+#[derive(Clone, Copy, Debug, PartialEq, Eq, Hash)]
 pub struct DefId {
     number: u32,
 }
@@ -93,7 +93,7 @@ impl DefId {
 }
 
 /// The id of a data or record type of a signature. Contracts see its number.
-#[derive(Clone, Copy, Debug, PartialEq, Eq)]
+#[derive(Clone, Copy, Debug, PartialEq, Eq, Hash)]
 pub struct FamId {
     number: u32,
 }
@@ -123,7 +123,7 @@ impl FamId {
 }
 
 /// The id of a constructor of a signature. Contracts see its number.
-#[derive(Clone, Copy, Debug, PartialEq, Eq)]
+#[derive(Clone, Copy, Debug, PartialEq, Eq, Hash)]
 pub struct ConId {
     number: u32,
 }
@@ -153,7 +153,7 @@ impl ConId {
 }
 
 /// The id of a field of a record of a signature. Contracts see its number.
-#[derive(Clone, Copy, Debug, PartialEq, Eq)]
+#[derive(Clone, Copy, Debug, PartialEq, Eq, Hash)]
 pub struct FieldId {
     number: u32,
 }
@@ -183,7 +183,7 @@ impl FieldId {
 }
 
 /// The id of a metavariable. Contracts see its number.
-#[derive(Clone, Copy, Debug, PartialEq, Eq)]
+#[derive(Clone, Copy, Debug, PartialEq, Eq, Hash)]
 pub struct MetaId {
     number: u32,
 }

@@ -5,28 +5,37 @@
 //! id stands for. Everything above works on ids, and reads in contracts as if it worked on trees.
 #![tactic(auto)]
 
+mod args;
 mod change;
+mod clause;
+mod count;
 mod ids;
+mod instance;
+mod measures;
 mod names;
-mod no_memory;
 mod node;
+mod pattern;
 mod pool;
-mod row;
 mod shifting;
 mod signature;
+mod solutions;
 mod table;
 mod telescope;
 mod traversal;
+mod tree;
 
+pub use clause::{CheckedLeft, ConDecl, CoreClause, Dot, Solved};
+pub use count::{Count, count_nodes};
+pub use el_base::{Many as Row, NoMemory};
 pub use ids::{ConId, DefId, FamId, FieldId, MetaId, NameId, TermId};
+pub use instance::{instantiate, same_term};
+pub use measures::{MOST_LEVELS, MOST_NODES};
 pub use names::Names;
-pub use no_memory::NoMemory;
-pub use node::{Node, Parts};
-pub use pool::{Args, PoolMark, TermPool};
-pub use row::Row;
-pub use shifting::{shift, subst};
-pub use signature::{CoreDecl, DefEntry, DefState, SigMark, Signature};
+pub use node::{Args, Node, Parts};
+pub use pattern::{Braces, CorePat, Origin, PatShape};
+pub use pool::{PoolMark, TermPool};
+pub use shifting::{fill, shift, subst, under};
+pub use signature::{CoreDecl, DefEntry, DefState, FamEntry, SigMark, Signature};
+pub use solutions::{NoSolutions, Solutions};
 pub use telescope::{Entry, Limits, Telescope};
-
-#[cfg(test)]
-mod tests;
+pub use tree::{Branch, CoBranch, ConBranch, Step, Tree, Way};

@@ -1,12 +1,13 @@
-ghost use Rattle.std.specs.Prelude.{◌≡◌, ◌<◌, length, IfOk, OnOk, refl};
-ghost use Rattle.core_rules.specs.Substitution.{shift, shift_var, subst, subst_var};
+ghost use Rattle.std.specs.Prelude.{◌≡◌, ◌<◌, length, map, IfOk, OnOk, refl};
+ghost use Rattle.std.specs.List.{AllByRecursion};
+ghost use Rattle.core_rules.specs.Substitution.{shift, shift_var, subst, under};
 ghost use Rattle.core_terms.specs.Pool.{Pool, tree, Extends, StandsFor};
-ghost use Rattle.core_terms.specs.Growth.{subst-stays};
-ghost use Rattle.core_terms.specs.Shifted.{IsShifted, IsShifted-stays};
+ghost use Rattle.core_terms.specs.Placed.{filled, placed, placed_var, placed-stays};
+ghost use Rattle.core_terms.specs.Shifted.{AreShifted, IsReady, IsReady-stays};
 
+use crate::NoMemory;
 use crate::change::Change;
 use crate::ids::TermId;
-use crate::no_memory::NoMemory;
 use crate::node::Node;
 use crate::pool::TermPool;
 use crate::table::Table;
@@ -28,6 +29,10 @@ impl Change for Rise {
     ghost stays_ready = { λ s p q h k. tt };
 
     ghost stays = { λ s p q h k. refl };
+
+    fn first(&self) -> u32 {
+        self.from
+    }
 
     fn variable(
         &mut self,
@@ -51,43 +56,59 @@ impl Change for Rise {
     }
 }
 
-/// A term stands for one variable, and those after it move down.
+/// What becomes of the variables after those that get a term.
+#[derive(Clone, Copy)]
+pub(crate) enum Beyond {
+    /// They move down into the place of those that got one.
+    Moves,
+    /// They become a closed term.
+    Closes,
+}
+
+/// Terms stand for the variables from `at` on.
 #[derive(Drop)]
-struct Replace {
+struct Place<'a> {
     at: u32,
-    by: TermId,
-    /// The term, shifted by so many binders: once for each number of them.
+    items: &'a [TermId],
+    beyond: Beyond,
+    /// The items, shifted by so many binders: once for each number of them.
     shifted: Table,
 }
 
-impl Replace {
-    /// The term under so many binders.
-    fn value(&mut self, alloc: Global, pool: &mut TermPool, under: u32) -> Result<TermId, NoMemory>
-        requires { IsShifted self.old.shifted self.old.by pool.old }
-        ensures extends { Extends pool.old pool.new }
-        ensures is { IfOk result
-            (λ r. StandsFor pool.new r (shift (tree pool.old self.old.by) 0 under)) }
-        ensures at { self.new.at ≡ self.old.at }
-        ensures by { self.new.by ≡ self.old.by }
-        ensures shifted { OnOk result (IsShifted self.new.shifted self.old.by pool.new) }
-    {
-        if let Some(made) = self.shifted.get(self.by, under) {
-            return Ok(made);
-        }
-        let made = shift(alloc, pool, self.by, 0, under)?;
-        self.shifted.put(self.by, under, made)?;
-        Ok(made)
+/// The term, which is one of the items, under so many binders.
+fn lifted(
+    alloc: Global,
+    pool: &mut TermPool,
+    shifted: &mut Table,
+    t: TermId,
+    under: u32,
+) -> Result<TermId, NoMemory>
+    requires shifted { AreShifted shifted.old pool.old }
+    requires within { t < length pool.old.trees }
+    ensures extends { Extends pool.old pool.new }
+    ensures is { IfOk result (λ r. StandsFor pool.new r (shift (tree pool.old t) 0 under)) }
+    ensures shifted { OnOk result (AreShifted shifted.new pool.new) }
+{
+    if let Some(made) = shifted.get(t, under) {
+        return Ok(made);
     }
+    let made = shift(alloc, pool, t, 0, under)?;
+    shifted.put(t, under, made)?;
+    Ok(made)
 }
 
-impl Change for Replace {
-    ghost term = { λ s p d i. subst_var s.at (tree p s.by) d i };
+impl<'a> Change for Place<'a> {
+    ghost term = { λ s p d i. placed_var s.at (map (tree p) s.items.now) s.beyond d i };
 
-    ghost ready = { λ s p. IsShifted s.shifted s.by p };
+    ghost ready = { λ s p. IsReady s.shifted s.items.now p };
 
-    ghost stays_ready = { λ s p q h k. IsShifted-stays h k };
+    ghost stays_ready = { λ s p q h k. IsReady-stays h k };
 
-    ghost stays = { λ s p q h k. subst-stays s.at s.by p q h k.within };
+    ghost stays = { λ s p q h k. placed-stays s.at s.items.now s.beyond p q h k.items };
+
+    fn first(&self) -> u32 {
+        self.at
+    }
 
     fn variable(
         &mut self,
@@ -97,16 +118,21 @@ impl Change for Replace {
         under: u32,
         index: u32,
     ) -> Result<TermId, NoMemory> {
-        let Some(place) = self.at.checked_add(under) else {
+        let Some(start) = self.at.checked_add(under) else {
             return Ok(t);
         };
-        if index < place {
+        if index < start {
             return Ok(t);
         }
-        if index == place {
-            return self.value(alloc, pool, under);
+        let place = (index - start) as usize;
+        let items = self.items;
+        if place < items.len() {
+            return lifted(alloc, pool, &mut self.shifted, items[place], under);
         }
-        pool.add(Node::Var(index - 1))
+        pool.add(match self.beyond {
+            Beyond::Moves => Node::Var(index - items.len() as u32),
+            Beyond::Closes => Node::Sort(0),
+        })
     }
 }
 
@@ -144,6 +170,67 @@ pub fn subst(
     ensures is { IfOk result
         (λ r. StandsFor pool.new r (subst (tree pool.old t) at (tree pool.old by))) }
 {
+    put_items(alloc, pool, t, at, &[by], Beyond::Moves)
+}
+
+/// The term with item i of the list for its variable i, where a variable without an item becomes a
+/// closed term.
+pub fn under(
+    alloc: Global,
+    pool: &mut TermPool,
+    t: TermId,
+    env: &[TermId],
+) -> Result<TermId, NoMemory>
+    requires t { t < length pool.old.trees }
+    requires env { AllByRecursion (λ i. i < length pool.old.trees) env.now }
+    ensures extends { Extends pool.old pool.new }
+    ensures is { IfOk result
+        (λ r. StandsFor pool.new r (under (map (tree pool.old) env.now) (tree pool.old t))) }
+{
+    put_items(alloc, pool, t, 0, env, Beyond::Closes)
+}
+
+/// The term with item i of the list for its variable i; the variables after the items move down.
+pub fn fill(
+    alloc: Global,
+    pool: &mut TermPool,
+    t: TermId,
+    items: &[TermId],
+) -> Result<TermId, NoMemory>
+    requires t { t < length pool.old.trees }
+    requires items { AllByRecursion (λ i. i < length pool.old.trees) items.now }
+    ensures extends { Extends pool.old pool.new }
+    ensures is { IfOk result
+        (λ r. StandsFor pool.new r (filled (map (tree pool.old) items.now) (tree pool.old t))) }
+{
+    put_items(alloc, pool, t, 0, items, Beyond::Moves)
+}
+
+/// The term with these items for its variables from `at` on.
+fn put_items(
+    alloc: Global,
+    pool: &mut TermPool,
+    t: TermId,
+    at: u32,
+    items: &[TermId],
+    beyond: Beyond,
+) -> Result<TermId, NoMemory>
+    requires t { t < length pool.old.trees }
+    requires items { AllByRecursion (λ i. i < length pool.old.trees) items.now }
+    ensures extends { Extends pool.old pool.new }
+    ensures is { IfOk result (λ r. StandsFor pool.new r
+        (placed at (map (tree pool.old) items.now) beyond (tree pool.old t))) }
+{
     let shifted = Table::new(alloc);
-    changed(alloc, pool, &mut Replace { at, by, shifted }, t)
+    changed(
+        alloc,
+        pool,
+        &mut Place {
+            at,
+            items,
+            beyond,
+            shifted,
+        },
+        t,
+    )
 }

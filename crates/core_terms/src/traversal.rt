@@ -5,9 +5,9 @@ ghost use Rattle.core_terms.specs.Node.{with_two};
 ghost use Rattle.core_terms.specs.Change.{State, Turn};
 ghost use Rattle.core_terms.specs.declared.change.Task.TheVariants.{Make};
 
+use crate::NoMemory;
 use crate::change::{Change, Task};
 use crate::ids::TermId;
-use crate::no_memory::NoMemory;
 use crate::node::{Node, Parts};
 use crate::pool::TermPool;
 use crate::table::Table;
@@ -27,6 +27,9 @@ pub(crate) fn changed<C: Change>(
     ensures is { IfOk result
         (λ r. StandsFor pool.new r (over (C.term change.old pool.old) 0 (tree pool.old t))) }
 {
+    if pool.reach(t) <= change.first() as u64 {
+        return Ok(t);
+    }
     let mut table = Table::new(alloc);
     let mut pending = Vec::new(alloc);
     pending.push(Task::Make { t, under: 0 })?;
@@ -105,6 +108,9 @@ fn make<C: Change>(
         pool.old table.old (pending.old.items ++ Make t under ∷ [])
         pool.new table.new pending.new.items) }
 {
+    if pool.reach(t) <= under as u64 + change.first() as u64 {
+        return table.put(t, under, t);
+    }
     let node = pool.node(t);
     match node.parts() {
         Parts::Variable(index) => {
@@ -147,13 +153,13 @@ fn join(
     made: (TermId, TermId),
 ) -> Result<TermId, NoMemory>
     requires within { t < length pool.old.trees }
-    requires is { tree pool.old t ≡ node_tree (tree pool.old) pool.old.ids node.now }
+    requires is { tree pool.old t ≡ node_tree (tree pool.old) node.now }
     requires parts { with_two parts.0 parts.1 node.now ≡ node.now }
-    requires below { Below (length pool.old.trees) pool.old.ids
+    requires below { Below (tree pool.old) (length pool.old.trees)
         (with_two made.0 made.1 node.now) }
     ensures extends { Extends pool.old pool.new }
     ensures stands { IfOk result (λ r. StandsFor pool.new r
-        (node_tree (tree pool.old) pool.old.ids (with_two made.0 made.1 node.now))) }
+        (node_tree (tree pool.old) (with_two made.0 made.1 node.now))) }
 {
     if made.0 == parts.0 && made.1 == parts.1 {
         return Ok(t);

@@ -1,5 +1,5 @@
 use Rattle.std.proofs.Common.{◌≡◌}
-use Rattle.core_terms.specs.Pool.{tree, Extends}
+use Rattle.core_terms.specs.Pool.{Extends}
 use Rattle.core_terms.specs.Change.{State, Comes, weigh}
 use Rattle.core_terms.proofs.traversal.changed.Given as goal
 
@@ -13,4 +13,4 @@ invariant-loop-task g l = record {
 }
 
 abbrev pub decreases-loop-task : goal.decreases-loop-task
-decreases-loop-task g l = weigh (tree l.pool) l.pending.items
+decreases-loop-task g l = weigh l.pending.items

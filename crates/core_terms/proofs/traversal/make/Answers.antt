@@ -1,6 +1,6 @@
 use Rattle.std.proofs.Common.{refl, sym, ◌∙◌, ◌++◌, ◌∷◌, [], ◌<◌, length, rules, subst}
 use Rattle.std.proofs.lemmas.Result.{on_ok_weaker}
-use Rattle.core_terms.proofs.Turns.{put-turn, open-turn, made-alone, made-variable, all_last, three-pushes}
+use Rattle.core_terms.proofs.Turns.{put-turn, open-turn, made-alone, made-kept, made-variable, all_last, three-pushes}
 use Rattle.core_terms.specs.Change.{IsTask, Turn}
 use Rattle.core_terms.specs.Growth.{Extends-refl}
 use Rattle.core_terms.specs.declared.change.Task.TheVariants.{Make}
@@ -10,10 +10,18 @@ pub returns-in_ok-made-in-Variable-clause-turn : goal.returns-in_ok-made-in-Vari
 returns-in_ok-made-in-Variable-clause-turn g c =
     let f = g.C.Change.term c.args.change.now c.args.pool.now in
     let l : c.args.t < length c.args.pool.now.trees = all_last (IsTask c.args.pool.now) c.args.pending.now.items (Make c.args.t c.args.under) c.requires.state.tasks in
-    on_ok_weaker c.put.result (put-turn f c.args.pool.now c.args.table.now c.args.pending.now.items (Make c.args.t c.args.under) c.requires.state c.variable.new.pool c.put.new.self
+    on_ok_weaker c.put-in-Variable.result (put-turn f c.args.pool.now c.args.table.now c.args.pending.now.items (Make c.args.t c.args.under) c.requires.state c.variable.new.pool c.put-in-Variable.new.self
     c.args.t c.args.under c.in_ok-made-in-Variable.made refl c.variable.ensures.extends l
     (made-variable f c.args.pool.now c.variable.new.pool c.args.t c.args.under c.in-Variable.index c.in_ok-made-in-Variable.made c.node-node.result c.node-node.ensures.is
-    (sym c.parts.ensures ∙ c.in-Variable.is) c.in_ok-made-in-Variable.ensures.is)) c.put.ensures
+    (sym c.parts.ensures ∙ c.in-Variable.is) c.in_ok-made-in-Variable.ensures.is)) c.put-in-Variable.ensures
+
+pub returns-then-reach-under-clause-turn : goal.returns-then-reach-under-clause-turn
+returns-then-reach-under-clause-turn g c =
+    let f = g.C.Change.term c.args.change.now c.args.pool.now in
+    let l : c.args.t < length c.args.pool.now.trees = all_last (IsTask c.args.pool.now) c.args.pending.now.items (Make c.args.t c.args.under) c.requires.state.tasks in
+    on_ok_weaker c.put.result (put-turn f c.args.pool.now c.args.table.now c.args.pending.now.items (Make c.args.t c.args.under) c.requires.state c.args.pool.now c.put.new.self
+    c.args.t c.args.under c.args.t refl (Extends-refl c.args.pool.now) l
+    (made-kept f c.first.result c.args.pool.now c.args.t c.args.under l (c.first.ensures c.args.pool.now) (search rules))) c.put.ensures
 
 pub returns-in-Alone-clause-turn : goal.returns-in-Alone-clause-turn
 returns-in-Alone-clause-turn g c =

@@ -35,7 +35,7 @@ returns-in_ok-made-in-Join-clause-turn g c =
     let first : found c.args.table.now c.in-Join.first c.in-Join.under ≡ Some c.in-Some.made_first = cc (c.get-in-Join.ensures, c.in-Some.is) in
     let second : found c.args.table.now c.in-Join.second c.in-Join.inner ≡ Some c.in-Some-get.made_second = cc (c.get-in-Join-2.ensures, c.in-Some-get.is) in
     let made : StandsFor c.join.new.pool c.in_ok-made-in-Join.made (over f c.in-Join.under (tree c.args.pool.now c.in-Join.t)) =
-    made-join f c.args.pool.now c.join.new.pool c.args.table.now c.in-Join.t c.in-Join.under c.in-Join.first c.in-Join.second c.in-Join.inner c.in-Some.made_first c.in-Some-get.made_second c.in_ok-made-in-Join.made c.in-Join.node
-    c.requires.state.fits j first second c.in_ok-made-in-Join.ensures.stands in
+    made-join f c.args.pool.now c.args.table.now c.in-Join.t c.in-Join.under c.in-Join.first c.in-Join.second c.in-Join.inner c.in-Some.made_first c.in-Some-get.made_second c.in-Join.node
+    c.requires.state.fits j first second c.join.new.pool c.in_ok-made-in-Join.made c.in_ok-made-in-Join.ensures.stands in
     on_ok_weaker c.put.result (put-turn f c.args.pool.now c.args.table.now c.args.pending.now.items c.args.task c.requires.state c.join.new.pool c.put.new.self
     c.in-Join.t c.in-Join.under c.in_ok-made-in-Join.made (ap key c.in-Join.is) c.join.ensures.extends j.within made) c.put.ensures

@@ -1,6 +1,6 @@
-use Rattle.std.proofs.Common.{arith}
-use Rattle.core_terms.proofs.Trees.{length-trees}
+use Rattle.std.proofs.Common.{sym, ◌∙◌}
+use Rattle.core_terms.proofs.Seen.{seen-length}
 use Rattle.core_terms.proofs.pool.TermPool.len.Goals as goal
 
 pub returns : goal.returns
-returns c = rw (← c.self.view_is) (omega (arith, length-trees c.self.inside.ids.items c.self.inside.nodes.items, c.self.inside.nodes.ok.0))
+returns c = c.len.ensures.len ∙ sym (seen-length c.self.inside.nodes.keys c.args.self.now c.self.view_is)
