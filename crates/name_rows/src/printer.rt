@@ -21,6 +21,15 @@ fn written(alloc: Global, found: &ResolvedExpr) -> Result<String, NoMemory> {
     Ok(printer.out)
 }
 
+/// What an expression with binders begins with.
+fn opening(found: &ResolvedExpr) -> &'static str {
+    match found {
+        ResolvedExpr::Forall(_, _, _) => "(∀ ",
+        ResolvedExpr::Lambda(_, _, _) => "(λ ",
+        _ => "(",
+    }
+}
+
 impl Printer {
     pub fn new(alloc: Global) -> Printer {
         Printer {
@@ -91,21 +100,6 @@ impl Printer {
         }
     }
 
-    /// A body after its binders.
-    #[cycle(expr)]
-    fn bound(
-        &mut self,
-        word: &str,
-        around: &[ResolvedBinder],
-        body: &ResolvedExpr,
-    ) -> Result<(), NoMemory> {
-        self.text(word)?;
-        self.binders(around)?;
-        self.text("→ ")?;
-        self.expr(body)?;
-        self.text(")")
-    }
-
     #[cycle(expr)]
     fn args(&mut self, all: &[ResolvedArg]) -> Result<(), NoMemory> {
         for one in all {
@@ -150,12 +144,14 @@ impl Printer {
     #[cycle(expr)]
     fn expr(&mut self, found: &ResolvedExpr) -> Result<(), NoMemory> {
         match found {
-            ResolvedExpr::Pi(_, around, body) => self.bound("(", around.as_slice(), body.get()),
-            ResolvedExpr::Forall(_, around, body) => {
-                self.bound("(∀ ", around.as_slice(), body.get())
-            }
-            ResolvedExpr::Lambda(_, around, body) => {
-                self.bound("(λ ", around.as_slice(), body.get())
+            ResolvedExpr::Pi(_, around, body)
+            | ResolvedExpr::Forall(_, around, body)
+            | ResolvedExpr::Lambda(_, around, body) => {
+                self.text(opening(found))?;
+                self.binders(around.as_slice())?;
+                self.text("→ ")?;
+                self.expr(body.get())?;
+                self.text(")")
             }
             ResolvedExpr::Arrow(_, left, right) => {
                 self.text("(")?;

@@ -63,6 +63,15 @@ fn resolved(
     }
 }
 
+/// What is shown of a declaration that is resolved twice, alike or not.
+fn agreed(alloc: Global, one: String, two: &str) -> Result<String, NoMemory> {
+    if one.as_str() == two {
+        Ok(one)
+    } else {
+        Ok(format!(in alloc; "{one}, and after a cut {two}")?)
+    }
+}
+
 /// The same, twice: after a cut to the mark before the declaration it is resolved again, alike.
 fn resolved_again(
     alloc: Global,
@@ -74,11 +83,7 @@ fn resolved_again(
     let one = resolved(alloc, scope, decl, detail)?;
     scope.cut(mark);
     let two = resolved(alloc, scope, decl, detail)?;
-    if one.as_str() == two.as_str() {
-        Ok(one)
-    } else {
-        Ok(format!(in alloc; "{one}, and after a cut {two}")?)
-    }
+    agreed(alloc, one, two.as_str())
 }
 
 /// The texts that have numbers.

@@ -4,34 +4,34 @@ use std::alloc::Global;
 use std::fmt::Write;
 
 /// Where the innermost variable of a text is, counted from the innermost.
-fn place(alloc: Global, locals: &Locals, text: &str) -> Result<String, NoMemory> {
+fn line(out: &mut String, locals: &Locals, around: &str, text: &str) -> Result<(), NoMemory> {
     match locals.find(text) {
-        Some(index) => Ok(format!(in alloc; "v{index}")?),
-        None => Ok(String::from_str(alloc, "none")?),
+        Some(index) => writeln!(out, "    {around}: `{text}` is v{index}")?,
+        None => writeln!(out, "    {around}: `{text}` is none")?,
     }
+    Ok(())
+}
+
+fn lines(out: &mut String, locals: &mut Locals) -> Result<(), NoMemory> {
+    locals.push("x")?;
+    locals.push("x")?;
+    locals.push("")?;
+    line(out, locals, "x x _", "x")?;
+    locals.push("x")?;
+    line(out, locals, "x x _ x", "x")?;
+    line(out, locals, "x x _ x", "")?;
+    locals.cut(3);
+    line(out, locals, "x x _", "x")?;
+    locals.cut(1);
+    line(out, locals, "x", "x")?;
+    locals.cut(0);
+    line(out, locals, "nothing", "x")
 }
 
 /// Where x is among variables of this text and one without a name, as they come and go.
 pub fn places(alloc: Global) -> Result<String, NoMemory> {
     let mut out = String::from_str(alloc, "variables around an expression\n")?;
     let mut locals = Locals::new(alloc);
-    locals.push("x")?;
-    locals.push("x")?;
-    locals.push("")?;
-    let x = place(alloc, &locals, "x")?;
-    writeln!(out, "    x x _: x is {x}")?;
-    locals.push("x")?;
-    let x = place(alloc, &locals, "x")?;
-    let nameless = place(alloc, &locals, "")?;
-    writeln!(out, "    x x _ x: x is {x}, _ is {nameless}")?;
-    locals.cut(3);
-    let x = place(alloc, &locals, "x")?;
-    writeln!(out, "    x x _: x is {x}")?;
-    locals.cut(1);
-    let x = place(alloc, &locals, "x")?;
-    writeln!(out, "    x: x is {x}")?;
-    locals.cut(0);
-    let x = place(alloc, &locals, "x")?;
-    writeln!(out, "    nothing: x is {x}")?;
+    lines(&mut out, &mut locals)?;
     Ok(out)
 }
