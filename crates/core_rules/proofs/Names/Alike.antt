@@ -1,5 +1,5 @@
 -- Terms that are the same up to names, as a relation by cases, and what keeps them so.
-use Rattle.std.specs.Prelude.{◌≡◌, ℕ, ◌+◌, ◌-◌, Bool, true, false, cond, ltb, eqb, List, [], ◌∷◌, ◌++◌, length, reverse, Option, Some, None, refl, zero, suc}
+use Rattle.std.specs.Prelude.{◌≡◌, ℕ, ◌+◌, ◌-◌, Bool, true, false, cond, ltb, eqb, List, [], ◌∷◌, length, Option, Some, None, refl, suc}
 use Rattle.std.proofs.Common.{ap, sym, ◌∙◌, subst as transport}
 use Rattle.core_rules.specs.declared.Flag.{Flag}
 use Rattle.core_rules.specs.Term.{Term, Terms, Var, Sort, Pi, Lam, App, Def, Fam, Con, Proj, Meta, End, And, to_list, env_of, nameless, nameless_all, IsSameTerm}

@@ -1,11 +1,10 @@
 -- Head forms do not see names.
-use Rattle.std.specs.Prelude.{◌≡◌, ℕ, ◌+◌, Bool, true, false, ◌&&◌, cond, List, [], ◌∷◌, length, map, take, drop, slice_get, Option, Some, None, option_map, option_and_then, refl, zero, suc}
+use Rattle.std.specs.Prelude.{◌≡◌, ℕ, Bool, true, false, ◌&&◌, cond, List, [], ◌∷◌, length, map, slice_get, Option, Some, None, option_map, option_and_then, refl, zero, suc}
 use Rattle.std.proofs.Common.{subst as transport}
 use Rattle.core_rules.specs.Term.{Term, Terms, Proj, Meta, IsSameTerm}
-use Rattle.core_rules.specs.Substitution.{value_at}
 use Rattle.core_rules.specs.Signature.{Signature, Branch, Tree, Leaf, Intro, Cosplit, Split, RecordSplit, Absurd, ConBranches, con_branch, field_place, fields_of}
 use Rattle.core_rules.specs.Elimination.{Elim}
-use Rattle.core_rules.specs.Run.{ConApp, con_app, takes, full_con, spread}
+use Rattle.core_rules.specs.Run.{ConApp, con_app, takes, full_con}
 use Rattle.core_rules.specs.Heads.{Solutions, Answer, Form, Blocked, is_first, argument_of, Taken, taken, Choice, Enters, Stays, Waits, enter, branch_at, choice, IsForm, IsStuck, Heads, form, argument, projection, beta, project, replaced, unsolved, call, Follows, leaf, intro, cosplit, split, record_split, stuck, After, enters, stays, waits}
 use Rattle.core_rules.specs.NameLaws.{IsSameAnswer, IsSameSpine}
 use Rattle.core_rules.proofs.Names.Alike as A

@@ -1,5 +1,5 @@
 -- Typing does not see names.
-use Rattle.std.specs.Prelude.{ℕ, List, [], ◌∷◌, map, take, zero, suc}
+use Rattle.std.specs.Prelude.{ℕ, List, [], ◌∷◌, map}
 use Rattle.core_rules.specs.Term.{Term, Proj, IsSameTerm}
 use Rattle.core_rules.specs.Signature.{Signature, Context, fields_of}
 use Rattle.core_rules.specs.Elimination.{con_type}

@@ -1,8 +1,7 @@
 -- The run of a tree passes, up to conversion, to another signature that knows what the first one knows, and to changed terms: where a
 -- term becomes a record's constructor, a record split takes its arguments in place of projections, and the projection rule joins them.
-use Rattle.std.specs.Prelude.{◌≡◌, ℕ, ◌+◌, Bool, true, false, cond, eqb, List, [], ◌∷◌, ◌++◌, length, map, take, drop, slice_get, Option, Some, None, option_and_then, unwrap_or, refl, zero, suc}
+use Rattle.std.specs.Prelude.{◌≡◌, ℕ, Bool, true, false, cond, eqb, List, [], ◌∷◌, length, map, slice_get, Option, Some, None, option_and_then, unwrap_or, refl, suc}
 use Rattle.std.proofs.Common.{ap, sym, ◌∙◌, subst, arith}
-use mathlib.Core.List.{reverse_aux}
 use Rattle.core_rules.specs.Term.{Term, Proj}
 use Rattle.core_rules.specs.Substitution.{over, under, value_at}
 use Rattle.core_rules.specs.Signature.{Signature, Branch, Tree, Leaf, Intro, Cosplit, Split, RecordSplit, Absurd, CoBranches, NoField, OnField, ConBranches, NoCon, Refuted, Goes, co_branch, con_branch, fields_of}
