@@ -1,5 +1,6 @@
 pub mod Substitution
 pub mod Spines
+pub mod Pairwise
 pub mod Run
 pub mod Conversion
 pub mod Typing

@@ -1,6 +1,6 @@
 -- Conversion is kept where solved metavariables are replaced, in the terms and in the signature. A run passes up to conversion: where a
 -- metavariable becomes a record's constructor, a record split takes its arguments in place of projections.
-use Rattle.std.specs.Prelude.{◌≡◌, ℕ, ◌+◌, Bool, true, false, ◌&&◌, cond, eqb, List, [], ◌∷◌, ◌++◌, length, map, take, drop, slice_get, Option, Some, None, option_map, option_and_then, unwrap_or, refl, zero, suc}
+use Rattle.std.specs.Prelude.{◌≡◌, ℕ, Bool, true, false, ◌&&◌, cond, eqb, List, [], ◌∷◌, length, map, slice_get, Option, Some, None, option_map, option_and_then, unwrap_or, refl, suc}
 use Rattle.std.specs.Option.{option_map_or}
 use Rattle.std.proofs.Common.{ap, ap₂, sym, ◌∙◌, arith}
 use Rattle.std.proofs.lemmas.List.{length-map}
@@ -19,6 +19,7 @@ use Rattle.core_rules.specs.Laws.{RunsTo}
 use Rattle.core_rules.specs.InScope.{FamiliesHaveShape}
 use Rattle.core_rules.specs.Heads.{Solutions}
 use Rattle.core_rules.specs.BoundedLaws.{replace_elims}
+use Rattle.core_rules.proofs.Pairwise.{Pairwise, nil, one, pairwise-spread, pairwise-value, pairwise-kept}
 use Rattle.core_rules.proofs.Conversion.Changed.{conv-elims, conv_by}
 use Rattle.core_rules.proofs.Conversion.Shifted as W
 use Rattle.core_rules.proofs.Conversion.Shifted.{ConvEnv, conv-under}
@@ -73,63 +74,32 @@ module _ (f : Solutions) (g : Signature Term) where
     exact : {w : Term} → Moved w (replace f w)
     other : {w w' : Term} → full_con g w ≡ None → Conv (image f g) (replace f w) w' → Moved w w'
 
-  data AllMoved : List Term → List Term → Type 0 where
-    none : AllMoved [] []
-    more : {w w' : Term} {r r' : List Term} → Moved w w' → AllMoved r r' → AllMoved (w ∷ r) (w' ∷ r')
+  abbrev AllMoved : List Term → List Term → Type 0
+  AllMoved r q = Pairwise Moved r q
 
   exact_all : (r : List Term) → AllMoved r (map (replace f) r)
-  exact_all [] = none
-  exact_all (w ∷ r) = more exact (exact_all r)
-
-  moved-value_at : (r r' : List Term) (k : ℕ) → AllMoved r r' → Moved (value_at r k) (value_at r' k)
-  moved-value_at [] r' k none = exact
-  moved-value_at (w ∷ r) r' zero (more e m) = e
-  moved-value_at (w ∷ r) r' (suc k) (more {r' = s} e m) = moved-value_at r s k m
-
-  moved-append : {r r' s s' : List Term} → AllMoved r r' → AllMoved s s' → AllMoved (r ++ s) (r' ++ s')
-  moved-append none k = k
-  moved-append (more e m) k = more e (moved-append m k)
-
-  moved-take : {r r' : List Term} (k : ℕ) → AllMoved r r' → AllMoved (take k r) (take k r')
-  moved-take zero m = none
-  moved-take (suc k) none = none
-  moved-take (suc k) (more e m) = more e (moved-take k m)
-
-  moved-drop : {r r' : List Term} (k : ℕ) → AllMoved r r' → AllMoved (drop k r) (drop k r')
-  moved-drop zero m = m
-  moved-drop (suc k) none = none
-  moved-drop (suc k) (more e m) = moved-drop k m
-
-  moved-reverse_onto : {r r' s s' : List Term} → AllMoved r r' → AllMoved s s' → AllMoved (reverse_aux r s) (reverse_aux r' s')
-  moved-reverse_onto none k = k
-  moved-reverse_onto (more e m) k = moved-reverse_onto m (more e k)
-
-  moved-spread : {us us' r r' : List Term} (k : ℕ) → AllMoved us us' → AllMoved r r' → AllMoved (spread k us r) (spread k us' r')
-  moved-spread k u m = moved-append (moved-append (moved-take k m) (moved-reverse_onto u none)) (moved-drop (k + 1) m)
-
-  moved-kept : {r r' : List Term} (ks : List ℕ) → AllMoved r r' → AllMoved (map (value_at r) ks) (map (value_at r') ks)
-  moved-kept [] m = none
-  moved-kept {r = r} {r' = r'} (k ∷ ks) m = more (moved-value_at r r' k m) (moved-kept ks m)
+  exact_all [] = nil
+  exact_all (w ∷ r) = one exact (exact_all r)
 
   moved-conv : {w w' : Term} → Moved w w' → Conv (image f g) w' (replace f w)
   moved-conv exact = C.same
   moved-conv (other e k) = C.back k
 
   moved-env : {r r' : List Term} → AllMoved r r' → ConvEnv (image f g) r' (map (replace f) r)
-  moved-env none = W.none
-  moved-env (more e m) = W.more (moved-conv e) (moved-env m)
+  moved-env nil = W.none
+  moved-env (one e m) = W.more (moved-conv e) (moved-env m)
 
   -- projections of w, which is no constructor, to the fields ks
   moved_each : (w : Term) (ks : List ℕ) (us : List Term) → ((i k : ℕ) (u : Term) → slice_get ks i ≡ Some k → slice_get us i ≡ Some u → Conv (image f g) (Proj k (replace f w)) u) → length ks ≡ length us
       → AllMoved (map (λ k. Proj k w) ks) us
-  moved_each w [] [] p e = none
+  moved_each w [] [] p e = nil
   moved_each w [] (u ∷ us) p e = absurd (omega (arith, e))
   moved_each w (k ∷ ks) [] p e = absurd (omega (arith, e))
-  moved_each w (k ∷ ks) (u ∷ us) p e = more (other refl (p 0 k u refl refl)) (moved_each w ks us (λ i. p (suc i)) (omega (arith, e)))
+  moved_each w (k ∷ ks) (u ∷ us) p e = one (other refl (p 0 k u refl refl)) (moved_each w ks us (λ i. p (suc i)) (omega (arith, e)))
 
   projected : (w w' : Term) (ks : List ℕ) → Conv (image f g) (replace f w) w' → AllMoved (map (λ k. Proj k w) ks) (map (λ k. Proj k w') ks)
-  projected w w' [] c = none
-  projected w w' (k ∷ ks) c = more (other refl (C.proj c)) (projected w w' ks c)
+  projected w w' [] c = nil
+  projected w w' (k ∷ ks) c = one (other refl (C.proj c)) (projected w w' ks c)
 
   module _ (shapes : FamiliesHaveShape (image f g)) where
     same_projections : (n : ℕ) (t : Term) → projections (image f g) n t ≡ projections g n t
@@ -174,14 +144,14 @@ module _ (f : Solutions) (g : Signature Term) where
       is = C.then (conv-elims (replace_elims f es) (conv-under (replace f t) (moved-env m)))
           (conv_by (sym (replace-elims f (under r t) es ∙ ap (λ u. elims u (replace_elims f es)) (replace-under f r t))));
     }
-    run-image (run.intro p) m = let i = run-image p (more exact m) in record { to = i.to; runs = run.intro i.runs; is = i.is }
+    run-image (run.intro p) m = let i = run-image p (one exact m) in record { to = i.to; runs = run.intro i.runs; is = i.is }
     run-image (run.cosplit {bs = bs} {T = T} {f = k} e p) m =
         let i = run-image p m in record { to = i.to; runs = run.cosplit (co_branch-map (replace f) bs k ∙ ap (option_map (tree_map (replace f))) e) i.runs; is = i.is }
     run-image {r' = r'} (run.split {bs = bs} {b = b} {T = T} {r = r} {k = k} {c = c} e w p) m =
-        let i = run-image p (moved-kept b.keep (moved-spread k (exact_all c.args) m)) in
-        record { to = i.to; runs = run.split (moved-full (value_at r k) (value_at r' k) c e (moved-value_at r r' k m)) (con_branch-map (replace f) bs c.con ∙ ap (goes_map (replace f)) w) i.runs; is = i.is }
+        let i = run-image p (pairwise-kept b.keep exact (pairwise-spread k (exact_all c.args) m)) in
+        record { to = i.to; runs = run.split (moved-full (value_at r k) (value_at r' k) c e (pairwise-value k exact m)) (con_branch-map (replace f) bs c.con ∙ ap (goes_map (replace f)) w) i.runs; is = i.is }
     run-image {r' = r'} (run.record_split {r = r} {k = k} {d = n} p) m =
-        let i = run-image p (moved-spread k (moved-parts n (value_at r k) (value_at r' k) (moved-value_at r r' k m)) m) in
+        let i = run-image p (pairwise-spread k (moved-parts n (value_at r k) (value_at r' k) (pairwise-value k exact m)) m) in
         record { to = i.to; runs = run.record_split i.runs; is = i.is }
 
     args-flags : (es : Telescope Term) (ts : List Term) → args (telescope_map (replace f) es) ts ≡ args es ts
@@ -240,7 +210,7 @@ module _ (f : Solutions) (g : Signature Term) where
       conv-image (C.eta_record {k = k} {d = d} {t = t} ps is) = eta-image k d t ps is
       conv-image (C.field {f = k} {t = t} {u = u} is) = C.field (argument-image k t u is)
       conv-image (C.unfolds {T = T} {u = u} k es e h) =
-          let r = run-image h none in
+          let r = run-image h nil in
           C.then (conv_by (replace-elims f (Def k) es))
           (C.then (C.unfolds k (replace_elims f es) (tree_of-map (replace f) g k ∙ ap (option_map (tree_map (replace f))) e) r.runs) r.is)
 

@@ -1,9 +1,9 @@
 -- What stands at the head of an answer.
-use Rattle.std.specs.Prelude.{◌≡◌, ℕ, List, refl}
+use Rattle.std.specs.Prelude.{ℕ, List, refl}
 use Rattle.core_rules.specs.Term.{Term, Var, Sort, Pi, Lam, App, Def, Fam, Con, Proj, Meta}
 use Rattle.core_rules.specs.Signature.{Tree, Signature}
 use Rattle.core_rules.specs.Elimination.{Elim}
-use Rattle.core_rules.specs.Heads.{Solutions, Answer, Form, Blocked, Choice, IsForm, Heads, form, argument, projection, beta, project, replaced, unsolved, call, Follows, leaf, intro, cosplit, split, record_split, stuck, After, enters, stays, waits}
+use Rattle.core_rules.specs.Heads.{Solutions, Answer, Choice, IsForm, Heads, form, argument, projection, beta, project, replaced, unsolved, call, Follows, leaf, intro, cosplit, split, record_split, stuck, After, enters, stays, waits}
 use Rattle.core_rules.specs.BoundedLaws.{IsHead, HasItsHead}
 
 form_head : (g : Signature Term) (h : Term) (es : List Elim) → IsForm g h es → IsHead h

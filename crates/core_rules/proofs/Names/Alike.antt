@@ -1,7 +1,6 @@
 -- Terms that are the same up to names, as a relation by cases, and what keeps them so.
-use Rattle.std.specs.Prelude.{◌≡◌, ℕ, ◌+◌, ◌-◌, Bool, true, false, cond, ltb, eqb, List, [], ◌∷◌, ◌++◌, length, reverse, Option, Some, None, refl, zero, suc}
+use Rattle.std.specs.Prelude.{◌≡◌, ℕ, ◌+◌, ◌-◌, Bool, true, false, cond, ltb, eqb, List, [], ◌∷◌, length, Option, Some, None, refl, suc}
 use Rattle.std.proofs.Common.{ap, sym, ◌∙◌, subst as transport}
-use mathlib.Core.List.{reverse_aux}
 use Rattle.core_rules.specs.declared.Flag.{Flag}
 use Rattle.core_rules.specs.Term.{Term, Terms, Var, Sort, Pi, Lam, App, Def, Fam, Con, Proj, Meta, End, And, to_list, env_of, nameless, nameless_all, IsSameTerm}
 use Rattle.core_rules.specs.Substitution.{over, over_all, shift, shift_var, subst, subst_var, value_at, env_var, under, put_solution, replace, replace_all}
@@ -9,6 +8,7 @@ use Rattle.core_rules.specs.Signature.{Signature}
 use Rattle.core_rules.specs.Elimination.{Elim, Arg, Field, elims}
 use Rattle.core_rules.specs.InScope.{InScope, AllInScope}
 use Rattle.core_rules.specs.Heads.{Solutions}
+use Rattle.core_rules.proofs.Pairwise.{Pairwise, nil, one, pairwise-reverse, pairwise-value}
 use Rattle.core_rules.specs.NameLaws.{AreSameTerms, IsSameSpine}
 
 mutual
@@ -28,9 +28,8 @@ mutual
     ends : AllAlike End End
     both : {t u : Term} {ts us : Terms} → Alike t u → AllAlike ts us → AllAlike (And t ts) (And u us)
 
-pub data EachAlike : List Term → List Term → Type 0 where
-  nil : EachAlike [] []
-  one : {t u : Term} {ts us : List Term} → Alike t u → EachAlike ts us → EachAlike (t ∷ ts) (u ∷ us)
+abbrev pub EachAlike : List Term → List Term → Type 0
+EachAlike ts us = Pairwise Alike ts us
 
 pub data SpineAlike : List Elim → List Elim → Type 0 where
   none : SpineAlike [] []
@@ -163,9 +162,7 @@ pub alike-subst : {t u v w : Term} (at : ℕ) → Alike t u → Alike v w → Al
 alike-subst {v = v} {w = w} at a k = alike-over (subst_var at v) (subst_var at w) (λ d i. test-alike (ltb i (at + d)) var (test-alike (eqb i (at + d)) (alike-shift 0 d k) var)) 0 a
 
 pub alike-value : {r s : List Term} (i : ℕ) → EachAlike r s → Alike (value_at r i) (value_at s i)
-alike-value i nil = sort
-alike-value zero (one a k) = a
-alike-value (suc i) (one a k) = alike-value i k
+alike-value i h = pairwise-value i sort h
 
 pub alike-under : {r s : List Term} {t u : Term} → EachAlike r s → Alike t u → Alike (under r t) (under s u)
 alike-under {r = r} {s = s} k a = alike-over (env_var r) (env_var s) (λ d i. test-alike (ltb i d) var (alike-shift 0 d (alike-value (i - d) k))) 0 a
@@ -175,27 +172,12 @@ alike-elims a none = a
 alike-elims a (arg k h) = alike-elims (app a k) h
 alike-elims a (field h) = alike-elims (proj a) h
 
-pub each_length : {ts us : List Term} → EachAlike ts us → length ts ≡ length us
-each_length nil = refl
-each_length (one a k) = ap suc (each_length k)
-
-pub each-append : {ts us vs ws : List Term} → EachAlike ts us → EachAlike vs ws → EachAlike (ts ++ vs) (us ++ ws)
-each-append nil k = k
-each-append (one a h) k = one a (each-append h k)
-
-each-reversed : {ts us vs ws : List Term} → EachAlike ts us → EachAlike vs ws → EachAlike (reverse_aux ts vs) (reverse_aux us ws)
-each-reversed nil k = k
-each-reversed (one a h) k = each-reversed h (one a k)
-
-pub each-reverse : {ts us : List Term} → EachAlike ts us → EachAlike (reverse ts) (reverse us)
-each-reverse h = each-reversed h nil
-
 each_in : {ts us : Terms} → AllAlike ts us → EachAlike (to_list ts) (to_list us)
 each_in ends = nil
 each_in (both a h) = one a (each_in h)
 
 pub env-alike : {ts us : Terms} → AllAlike ts us → EachAlike (env_of ts) (env_of us)
-env-alike h = each-reverse (each_in h)
+env-alike h = pairwise-reverse (each_in h)
 
 -- the arguments of an environment, back
 pub alike-put : {ts us : Terms} (m : ℕ) (o : Option Term) → AllAlike ts us → Alike (put_solution m ts o) (put_solution m us o)

@@ -1,15 +1,16 @@
 -- Head forms do not see names.
-use Rattle.std.specs.Prelude.{◌≡◌, ℕ, ◌+◌, Bool, true, false, ◌&&◌, cond, List, [], ◌∷◌, length, map, take, drop, slice_get, Option, Some, None, option_map, option_and_then, refl, zero, suc}
+use Rattle.std.specs.Prelude.{◌≡◌, ℕ, Bool, true, false, ◌&&◌, cond, List, [], ◌∷◌, length, map, slice_get, Option, Some, None, option_map, option_and_then, refl, zero, suc}
 use Rattle.std.proofs.Common.{subst as transport}
 use Rattle.core_rules.specs.Term.{Term, Terms, Proj, Meta, IsSameTerm}
-use Rattle.core_rules.specs.Substitution.{value_at}
 use Rattle.core_rules.specs.Signature.{Signature, Branch, Tree, Leaf, Intro, Cosplit, Split, RecordSplit, Absurd, ConBranches, con_branch, field_place, fields_of}
 use Rattle.core_rules.specs.Elimination.{Elim}
-use Rattle.core_rules.specs.Run.{ConApp, con_app, takes, full_con, spread}
+use Rattle.core_rules.specs.Run.{ConApp, con_app, takes, full_con}
 use Rattle.core_rules.specs.Heads.{Solutions, Answer, Form, Blocked, is_first, argument_of, Taken, taken, Choice, Enters, Stays, Waits, enter, branch_at, choice, IsForm, IsStuck, Heads, form, argument, projection, beta, project, replaced, unsolved, call, Follows, leaf, intro, cosplit, split, record_split, stuck, After, enters, stays, waits}
 use Rattle.core_rules.specs.NameLaws.{IsSameAnswer, IsSameSpine}
 use Rattle.core_rules.proofs.Names.Alike as A
-use Rattle.core_rules.proofs.Names.Alike.{Alike, EachAlike, SpineAlike, same_of, same_spine, itself, each_itself, alike-subst, alike-value, alike-under, alike-elims, alike-put, each_length, each-append, each-reverse}
+use Rattle.core_rules.proofs.Names.Alike.{Alike, EachAlike, SpineAlike, same_of, same_spine, itself, alike-subst, alike-value, alike-under, alike-elims, alike-put}
+use Rattle.core_rules.proofs.Pairwise as P
+use Rattle.core_rules.proofs.Pairwise.{pairwise-length, pairwise-append, pairwise-spread, pairwise-kept}
 
 pub data AnswerAlike : Answer → Answer → Type 0 where
   forms : {h k : Term} {es ds : List Elim} → Alike h k → SpineAlike es ds → AnswerAlike (Form h es) (Form k ds)
@@ -33,9 +34,9 @@ data ChoiceAlike : Choice → Choice → Type 0 where
   both_wait : {m : ℕ} → ChoiceAlike (Waits m) (Waits m)
 
 got-alike : {us vs : List Term} (i : ℕ) → EachAlike us vs → TermFound (slice_get us i) (slice_get vs i)
-got-alike i A.nil = no_term
-got-alike zero (A.one a h) = a_term a
-got-alike (suc i) (A.one a h) = got-alike i h
+got-alike i P.nil = no_term
+got-alike zero (P.one a h) = a_term a
+got-alike (suc i) (P.one a h) = got-alike i h
 
 found_if : (b : Bool) {o p : Option Term} → TermFound o p → TermFound (cond b o None) (cond b p None)
 found_if true h = h
@@ -52,7 +53,7 @@ module _ (g : Signature Term) where
       by_place : (o : Option (ℕ × ℕ)) → TermFound (option_and_then (λ p. cond (takes g k (length us) && is_first g k p.0) (slice_get us p.1) None) o) (option_and_then (λ p. cond (takes g k (length vs) && is_first g k p.0) (slice_get vs p.1) None) o)
       by_place None = no_term
       by_place (Some p) =
-          transport (λ n. TermFound (cond (takes g k (length us) && is_first g k p.0) (slice_get us p.1) None) (cond (takes g k n && is_first g k p.0) (slice_get vs p.1) None)) (each_length h)
+          transport (λ n. TermFound (cond (takes g k (length us) && is_first g k p.0) (slice_get us p.1) None) (cond (takes g k n && is_first g k p.0) (slice_get vs p.1) None)) (pairwise-length h)
           (found_if (takes g k (length us) && is_first g k p.0) (got-alike p.1 h))
 
   took : {es ds : List Elim} {o p : Option Term} → TermFound o p → SpineAlike es ds → TakenAlike (option_map (λ u. record { value = u; rest = es }) o) (option_map (λ u. record { value = u; rest = ds }) p)
@@ -61,7 +62,7 @@ module _ (g : Signature Term) where
 
   taken-alike : {us vs : List Term} {es ds : List Elim} (k : ℕ) → EachAlike us vs → SpineAlike es ds → TakenAlike (taken g k us es) (taken g k vs ds)
   taken-alike k h A.none = not_taken
-  taken-alike k h (A.arg a s) = taken-alike k (each-append h (A.one a A.nil)) s
+  taken-alike k h (A.arg a s) = taken-alike k (pairwise-append h (P.one a P.nil)) s
   taken-alike k h (A.field {f = f} s) = took (argument-alike k f h) s
 
   none_taken : {o p : Option Taken} → TakenAlike o p → o ≡ None → p ≡ None
@@ -84,7 +85,7 @@ module _ (g : Signature Term) where
 
   con_app-alike : {t u : Term} {us vs : List Term} → Alike t u → EachAlike us vs → ConAlike (con_app t us) (con_app u vs)
   con_app-alike (A.con ps) h = a_con h
-  con_app-alike (A.app t u) h = con_app-alike t (A.one u h)
+  con_app-alike (A.app t u) h = con_app-alike t (P.one u h)
   con_app-alike A.var h = no_con
   con_app-alike A.sort h = no_con
   con_app-alike (A.pi a t) h = no_con
@@ -97,11 +98,11 @@ module _ (g : Signature Term) where
   full_if : {o p : Option ConApp} → ConAlike o p → ConAlike (option_and_then (λ s. cond (takes g s.con (length s.args)) (Some s) None) o) (option_and_then (λ s. cond (takes g s.con (length s.args)) (Some s) None) p)
   full_if no_con = no_con
   full_if (a_con {k = k} {ps = ps} {qs = qs} {us = us} {vs = vs} h) =
-      transport (λ n. ConAlike (cond (takes g k (length us)) (Some (record { con = k; params = ps; args = us })) None) (cond (takes g k n) (Some (record { con = k; params = qs; args = vs })) None)) (each_length h)
+      transport (λ n. ConAlike (cond (takes g k (length us)) (Some (record { con = k; params = ps; args = us })) None) (cond (takes g k n) (Some (record { con = k; params = qs; args = vs })) None)) (pairwise-length h)
       (con_if (takes g k (length us)) (a_con h))
 
   full_con-alike : {t u : Term} → Alike t u → ConAlike (full_con g t) (full_con g u)
-  full_con-alike a = full_if (con_app-alike a A.nil)
+  full_con-alike a = full_if (con_app-alike a P.nil)
 
   enter-alike : {us vs : List Term} (o : Option (Branch Term × Tree Term)) → EachAlike us vs → ChoiceAlike (enter us o) (enter vs o)
   enter-alike None h = both_stay
@@ -125,7 +126,7 @@ module _ (g : Signature Term) where
   form-alike (A.app t u) s p = absurd p
   form-alike A.def s p = p
   form-alike A.fam s p = tt
-  form-alike (A.con {k = k} ts) s p = none_taken (taken-alike k A.nil s) p
+  form-alike (A.con {k = k} ts) s p = none_taken (taken-alike k P.nil s) p
   form-alike (A.proj t) s p = absurd p
   form-alike (A.meta ts) s p = absurd p
 
@@ -141,26 +142,9 @@ module _ (g : Signature Term) where
   stuck-alike (RecordSplit k d T) s p = absurd p
   stuck-alike (Absurd k) s p = tt
 
-each_taken : {us vs : List Term} (n : ℕ) → EachAlike us vs → EachAlike (take n us) (take n vs)
-each_taken zero h = A.nil
-each_taken (suc n) A.nil = A.nil
-each_taken (suc n) (A.one a h) = A.one a (each_taken n h)
-
-each_dropped : {us vs : List Term} (n : ℕ) → EachAlike us vs → EachAlike (drop n us) (drop n vs)
-each_dropped zero h = h
-each_dropped (suc n) A.nil = A.nil
-each_dropped (suc n) (A.one a h) = each_dropped n h
-
-spread-alike : {us vs r q : List Term} (k : ℕ) → EachAlike us vs → EachAlike r q → EachAlike (spread k us r) (spread k vs q)
-spread-alike k h m = each-append (each-append (each_taken k m) (each-reverse h)) (each_dropped (k + 1) m)
-
-kept-alike : {r q : List Term} (is : List ℕ) → EachAlike r q → EachAlike (map (value_at r) is) (map (value_at q) is)
-kept-alike [] h = A.nil
-kept-alike (i ∷ is) h = A.one (alike-value i h) (kept-alike is h)
-
 pub projected-alike : {t u : Term} (fs : List ℕ) → Alike t u → EachAlike (map (λ f. Proj f t) fs) (map (λ f. Proj f u) fs)
-projected-alike [] a = A.nil
-projected-alike (f ∷ fs) a = A.one (A.proj a) (projected-alike fs a)
+projected-alike [] a = P.nil
+projected-alike (f ∷ fs) a = P.one (A.proj a) (projected-alike fs a)
 
 module _ (g : Signature Term) (s : Solutions) where
   abbrev Also : Term → List Elim → Answer → ℕ → Type 0
@@ -179,25 +163,25 @@ module _ (g : Signature Term) (s : Solutions) where
     heads-alike (projection d) (A.proj t) h = let x = heads-alike d t (A.field h) in (x.0, projection x.1, x.2)
     heads-alike (beta e d) (A.lam a t) (A.arg u h) = let x = heads-alike d (alike-subst 0 t u) h in (x.0, beta e x.1, x.2)
     heads-alike (project {k = k} {p = p} e d) (A.con ts) h =
-        let y = some_taken g p (taken-alike g k A.nil h) e in
+        let y = some_taken g p (taken-alike g k P.nil h) e in
         let x = heads-alike d y.value y.rest in (x.0, project y.is x.1, x.2)
     heads-alike (replaced {m = m} {t = t} e d) (A.meta ts) h = let x = heads-alike d (alike-put m (Some t) ts) h in (x.0, replaced e x.1, x.2)
     heads-alike {ds = ds} (unsolved {m = m} e) (A.meta {us = us} ts) h = (Blocked m (Meta m us) ds, unsolved e, blocked (A.meta ts) h)
-    heads-alike (call e d) A.def h = let x = follows-alike d A.def h A.nil h in (x.0, call e x.1, x.2)
+    heads-alike (call e d) A.def h = let x = follows-alike d A.def h P.nil h in (x.0, call e x.1, x.2)
 
     follows-alike : {h h' : Term} {all all' es ds : List Elim} {T : Tree Term} {r q : List Term} {w : Answer} {n : ℕ} → Follows g s h all T r es w n → Alike h h' → SpineAlike all all' → EachAlike r q → SpineAlike es ds → AlsoFollows h' all' T q ds w n
     follows-alike (leaf {t = t} d) a x y z = let k = heads-alike d (alike-under y (itself t)) z in (k.0, leaf k.1, k.2)
-    follows-alike (intro d) a x y (A.arg u z) = let k = follows-alike d a x (A.one u y) z in (k.0, intro k.1, k.2)
+    follows-alike (intro d) a x y (A.arg u z) = let k = follows-alike d a x (P.one u y) z in (k.0, intro k.1, k.2)
     follows-alike (cosplit e d) a x y (A.field z) = let k = follows-alike d a x y z in (k.0, cosplit e k.1, k.2)
     follows-alike (split {k = i} {bs = bs} d p) a x y z =
         let u = heads-alike d (alike-value i y) A.none in
         let k = after-alike p (choice-alike g bs u.2) a x y z in
         (k.0, split u.1 k.1, k.2)
-    follows-alike (record_split {k = i} {d = m} d) a x y z = let k = follows-alike d a x (spread-alike i (projected-alike (fields_of g m) (alike-value i y)) y) z in (k.0, record_split k.1, k.2)
+    follows-alike (record_split {k = i} {d = m} d) a x y z = let k = follows-alike d a x (pairwise-spread i (projected-alike (fields_of g m) (alike-value i y)) y) z in (k.0, record_split k.1, k.2)
     follows-alike {h' = h'} {all' = all'} {T = T} (stuck p) a x y z = (Form h' all', stuck (stuck-alike g T z p), forms a x)
 
     after-alike : {h h' : Term} {all all' es ds : List Elim} {i : ℕ} {r q : List Term} {c c' : Choice} {w : Answer} {n : ℕ} → After g s h all i r es c w n → ChoiceAlike c c' → Alike h h' → SpineAlike all all' → EachAlike r q → SpineAlike es ds → AlsoAfter h' all' i q ds c' w n
-    after-alike {i = i} (enters {b = b} d) (both_enter e) a x y z = let k = follows-alike d a x (kept-alike b.keep (spread-alike i e y)) z in (k.0, enters k.1, k.2)
+    after-alike {i = i} (enters {b = b} d) (both_enter e) a x y z = let k = follows-alike d a x (pairwise-kept b.keep A.sort (pairwise-spread i e y)) z in (k.0, enters k.1, k.2)
     after-alike {h' = h'} {all' = all'} stays both_stay a x y z = (Form h' all', stays, forms a x)
     after-alike {h' = h'} {all' = all'} waits (both_wait {m = m}) a x y z = (Blocked m h' all', waits, blocked a x)
 

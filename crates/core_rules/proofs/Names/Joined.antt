@@ -1,5 +1,5 @@
 -- What joins solutions joins them under other names.
-use Rattle.std.specs.Prelude.{◌≡◌, ℕ, ◌+◌, List, [], ◌∷◌, length, slice_get, Some, refl, zero, suc}
+use Rattle.std.specs.Prelude.{◌≡◌, ℕ, ◌+◌, List, [], ◌∷◌, length, slice_get, Some, zero, suc}
 use Rattle.std.specs.List.{AllByRecursion}
 use Rattle.std.proofs.Common.{ap, sym, ◌∙◌}
 use Rattle.core_rules.specs.Term.{Term, Terms, Var}
@@ -9,8 +9,10 @@ use Rattle.core_rules.specs.InScope.{VarsBelow, AllVarsBelow}
 use Rattle.core_rules.specs.Unification.{Solution, Joins}
 use Rattle.core_rules.specs.Term.{IsSameTerm}
 use Rattle.core_rules.proofs.Heads.OneAnswer.{one_some}
+use Rattle.core_rules.proofs.Pairwise as P
+use Rattle.core_rules.proofs.Pairwise.{pairwise-length}
 use Rattle.core_rules.proofs.Names.Alike as A
-use Rattle.core_rules.proofs.Names.Alike.{Alike, AllAlike, EachAlike, same_of, itself, alike-value, alike-under, each_length}
+use Rattle.core_rules.proofs.Names.Alike.{Alike, AllAlike, EachAlike, same_of, itself, alike-value, alike-under}
 
 mutual
   below-alike : {t u : Term} (n : ℕ) → Alike t u → VarsBelow n t → VarsBelow n u
@@ -30,8 +32,8 @@ mutual
   all_below-alike n (A.both a k) h = (below-alike n a h.0, all_below-alike n k h.1)
 
 each_below : {r q : List Term} (n : ℕ) → EachAlike r q → AllByRecursion (λ t. VarsBelow n t) r → AllByRecursion (λ t. VarsBelow n t) q
-each_below n A.nil h = tt
-each_below n (A.one a k) h = (below-alike n a h.0, each_below n k h.1)
+each_below n P.nil h = tt
+each_below n (P.one a k) h = (below-alike n a h.0, each_below n k h.1)
 
 same_values : {r q : List Term} → EachAlike r q → (ss : List Solution) → AllByRecursion (λ s. IsSameTerm (value_at r s.var) (under r s.value)) ss → AllByRecursion (λ s. IsSameTerm (value_at q s.var) (under q s.value)) ss
 same_values k [] h = tt
@@ -50,13 +52,13 @@ variable_of j (A.proj t) e = absurd cc
 variable_of j (A.meta ts) e = absurd cc
 
 same_kept : {r q : List Term} (k j : ℕ) → EachAlike r q → slice_get r k ≡ Some (Var j) → slice_get q k ≡ Some (Var j)
-same_kept k j A.nil e = e
-same_kept zero j (A.one a h) e = ap Some (variable_of j a (one_some e))
-same_kept (suc k) j (A.one a h) e = same_kept k j h e
+same_kept k j P.nil e = e
+same_kept zero j (P.one a h) e = ap Some (variable_of j a (one_some e))
+same_kept (suc k) j (P.one a h) e = same_kept k j h e
 
 pub joins-named : (c c' : Context Term) (ss : List Solution) (r q : List Term) (keep : List ℕ) → EachAlike r q → Joins c ss c' r keep → Joins c ss c' q keep
 joins-named c c' ss r q keep k h = record {
-  long = sym (each_length k) ∙ h.long;
+  long = sym (pairwise-length k) ∙ h.long;
   scoped = each_below (length c') k h.scoped;
   values = same_values k ss h.values;
   as_many = h.as_many;

@@ -1,5 +1,5 @@
 -- Typing does not see names.
-use Rattle.std.specs.Prelude.{ℕ, List, [], ◌∷◌, map, take, zero, suc}
+use Rattle.std.specs.Prelude.{ℕ, List, [], ◌∷◌, map}
 use Rattle.core_rules.specs.Term.{Term, Proj, IsSameTerm}
 use Rattle.core_rules.specs.Signature.{Signature, Context, fields_of}
 use Rattle.core_rules.specs.Elimination.{con_type}
@@ -15,28 +15,25 @@ use Rattle.core_rules.proofs.Conversion.Shifted as W
 use Rattle.core_rules.proofs.Conversion.Shifted.{ConvEnv, conv-under, conv-subst_by}
 use Rattle.core_rules.proofs.Typing.Fitting.{typing-converted}
 use Rattle.core_rules.proofs.Names.Alike as A
-use Rattle.core_rules.proofs.Names.Alike.{Alike, EachAlike, same_of, env-alike, each-append, each-reverse, each_itself}
+use Rattle.core_rules.proofs.Names.Alike.{Alike, EachAlike, same_of, env-alike, each_itself}
+use Rattle.core_rules.proofs.Pairwise as P
+use Rattle.core_rules.proofs.Pairwise.{pairwise-append, pairwise-take, pairwise-reverse}
 
 module _ (g : Signature Term) where
   pub alike-conv : {t u : Term} → Alike t u → Conv g t u
   alike-conv {t = t} {u = u} a = same_term g t u (same_of a)
 
   env-conv : {r s : List Term} → EachAlike r s → ConvEnv g r s
-  env-conv A.nil = W.none
-  env-conv (A.one a h) = W.more (alike-conv a) (env-conv h)
+  env-conv P.nil = W.none
+  env-conv (P.one a h) = W.more (alike-conv a) (env-conv h)
 
   own_context : (c : Context Term) → ConvContext g c c
   own_context [] = L.empty
   own_context (e ∷ c) = L.extended (own_context c) C.same
 
-  each_taken : {ts us : List Term} (n : ℕ) → EachAlike ts us → EachAlike (take n ts) (take n us)
-  each_taken zero h = A.nil
-  each_taken (suc n) A.nil = A.nil
-  each_taken (suc n) (A.one a h) = A.one a (each_taken n h)
-
   each_projected : {t u : Term} (fs : List ℕ) → Alike t u → EachAlike (map (λ f. Proj f t) fs) (map (λ f. Proj f u) fs)
-  each_projected [] a = A.nil
-  each_projected (f ∷ fs) a = A.one (A.proj a) (each_projected fs a)
+  each_projected [] a = P.nil
+  each_projected (f ∷ fs) a = P.one (A.proj a) (each_projected fs a)
 
   mutual
     pub typing-alike : {c : Context Term} {t u a : Term} → Typing g c t a → Alike t u → Typing g c u a
@@ -53,12 +50,12 @@ module _ (g : Signature Term) where
         T.convert (T.con is (fits-alike h e)) (C.back (conv-under (con_type is.fam is.decl is.con) (env-conv e)))
     typing-alike (T.proj {f = f} is ps e h) (A.proj t) =
         T.convert (T.proj is ps e (typing-alike h t))
-        (C.back (conv-under is.entry.ty (env-conv (each-reverse (each-append (each_itself ps) (each_taken is.at (each_projected (fields_of g is.fam) t)))))))
+        (C.back (conv-under is.entry.ty (env-conv (pairwise-reverse (pairwise-append (each_itself ps) (pairwise-take is.at (each_projected (fields_of g is.fam) t)))))))
     typing-alike (T.convert h k) a = T.convert (typing-alike h a) k
 
     fits-alike : {c es : Context Term} {r s : List Term} → Fits g c r es → EachAlike r s → Fits g c s es
-    fits-alike T.none A.nil = T.none
-    fits-alike (T.more {e = e} h k) (A.one a t) = T.more (fits-alike h t) (T.convert (typing-alike k a) (conv-under e.ty (env-conv t)))
+    fits-alike T.none P.nil = T.none
+    fits-alike (T.more {e = e} h k) (P.one a t) = T.more (fits-alike h t) (T.convert (typing-alike k a) (conv-under e.ty (env-conv t)))
 
   same_contexts : (c d : Context Term) → IsSameContext c d → ConvContext g c d
   same_contexts [] [] h = L.empty

@@ -11,6 +11,7 @@ use Rattle.core_rules.specs.Bounded.{Verdict, Yes, No, OutOfFuel, OutOfDepth, Wa
 use Rattle.core_rules.specs.NameLaws.{IsSameVerdict}
 use Rattle.core_rules.proofs.Names.Alike as A
 use Rattle.core_rules.proofs.Names.Alike.{Alike, EachAlike, SpineAlike, same_of, turned, turned_spine, alike_of, alike-shift, alike-elims, alike-replace}
+use Rattle.core_rules.proofs.Pairwise as P
 use Rattle.core_rules.proofs.Names.HeadForms as H
 use Rattle.core_rules.proofs.Names.HeadForms.{AnswerAlike, heads-alike, projected-alike}
 
@@ -78,10 +79,10 @@ argument_parts-alike (A.field s) (A.arg k r) = none_found
 argument_parts-alike (A.field s) (A.field r) = none_found
 
 term_parts-alike : {us us' vs vs' : List Term} → EachAlike us us' → EachAlike vs vs' → FoundParts (term_parts us vs) (term_parts us' vs')
-term_parts-alike A.nil A.nil = some_found no_part
-term_parts-alike (A.one a h) (A.one b k) = found_with a b (term_parts-alike h k)
-term_parts-alike A.nil (A.one b k) = none_found
-term_parts-alike (A.one a h) A.nil = none_found
+term_parts-alike P.nil P.nil = some_found no_part
+term_parts-alike (P.one a h) (P.one b k) = found_with a b (term_parts-alike h k)
+term_parts-alike P.nil (P.one b k) = none_found
+term_parts-alike (P.one a h) P.nil = none_found
 
 cut_more-alike : {o p : Option Cut} (e e' : Elim) {es ds : List Elim} → SpineAlike (e ∷ []) (e' ∷ []) → SpineAlike es ds → CutAlike o p → CutAlike (cut_more e es o) (cut_more e' ds p)
 cut_more-alike (Field f) (Field f') (A.field x) s no_cut = a_cut A.none s
@@ -118,10 +119,10 @@ applied-alike b a s = A.app (alike-shift 0 1 (alike-elims a s)) A.var
 
 more_terms : {u v : Term} {o p : Option (List Term)} → Alike u v → TermsFound o p → TermsFound (option_map (λ us. u ∷ us) o) (option_map (λ us. v ∷ us) p)
 more_terms a no_terms = no_terms
-more_terms a (some_terms h) = some_terms (A.one a h)
+more_terms a (some_terms h) = some_terms (P.one a h)
 
 fitting-alike : {es ds : List Elim} (c : Telescope Term) → SpineAlike es ds → TermsFound (fitting c es) (fitting c ds)
-fitting-alike [] A.none = some_terms A.nil
+fitting-alike [] A.none = some_terms P.nil
 fitting-alike [] (A.arg a s) = no_terms
 fitting-alike [] (A.field s) = no_terms
 fitting-alike (e ∷ c) A.none = no_terms

@@ -1,8 +1,7 @@
 -- The run of a tree passes, up to conversion, to another signature that knows what the first one knows, and to changed terms: where a
 -- term becomes a record's constructor, a record split takes its arguments in place of projections, and the projection rule joins them.
-use Rattle.std.specs.Prelude.{◌≡◌, ℕ, ◌+◌, Bool, true, false, cond, eqb, List, [], ◌∷◌, ◌++◌, length, map, take, drop, slice_get, Option, Some, None, option_and_then, unwrap_or, refl, zero, suc}
+use Rattle.std.specs.Prelude.{◌≡◌, ℕ, Bool, true, false, cond, eqb, List, [], ◌∷◌, length, map, slice_get, Option, Some, None, option_and_then, unwrap_or, refl, suc}
 use Rattle.std.proofs.Common.{ap, sym, ◌∙◌, subst, arith}
-use mathlib.Core.List.{reverse_aux}
 use Rattle.core_rules.specs.Term.{Term, Proj}
 use Rattle.core_rules.specs.Substitution.{over, under, value_at}
 use Rattle.core_rules.specs.Signature.{Signature, Branch, Tree, Leaf, Intro, Cosplit, Split, RecordSplit, Absurd, CoBranches, NoField, OnField, ConBranches, NoCon, Refuted, Goes, co_branch, con_branch, fields_of}
@@ -15,6 +14,7 @@ use Rattle.core_rules.specs.Laws.{IsLifted, RunsTo}
 use Rattle.core_rules.specs.InScope.{FamiliesHaveShape}
 use Rattle.core_rules.proofs.Substitution.Lifted.{over-under}
 use Rattle.core_rules.proofs.Spines.{over-elims}
+use Rattle.core_rules.proofs.Pairwise.{Pairwise, nil, one, pairwise-spread, pairwise-value, pairwise-kept}
 use Rattle.core_rules.proofs.Run.Constructors.{full_con-over, con_over}
 use Rattle.core_rules.proofs.Conversion.Changed.{conv-elims, conv_by}
 use Rattle.core_rules.proofs.Conversion.Shifted.{ConvEnv, conv-under}
@@ -27,64 +27,33 @@ module _ (g h : Signature Term) (f : ℕ → ℕ → Term) (d : ℕ) where
     exact : {w : Term} → Moved w (over f d w)
     other : {w w' : Term} → full_con g w ≡ None → Conv h (over f d w) w' → Moved w w'
 
-  pub data AllMoved : List Term → List Term → Type 0 where
-    none : AllMoved [] []
-    more : {w w' : Term} {r r' : List Term} → Moved w w' → AllMoved r r' → AllMoved (w ∷ r) (w' ∷ r')
+  abbrev pub AllMoved : List Term → List Term → Type 0
+  AllMoved r q = Pairwise Moved r q
 
 module _ (g h : Signature Term) (f : ℕ → ℕ → Term) (d : ℕ) where
   exact_all : (r : List Term) → AllMoved g h f d r (map (over f d) r)
-  exact_all [] = none
-  exact_all (w ∷ r) = more exact (exact_all r)
-
-  moved-value_at : (r r' : List Term) (k : ℕ) → AllMoved g h f d r r' → Moved g h f d (value_at r k) (value_at r' k)
-  moved-value_at [] r' k none = exact
-  moved-value_at (w ∷ r) r' zero (more e m) = e
-  moved-value_at (w ∷ r) r' (suc k) (more {r' = s} e m) = moved-value_at r s k m
-
-  moved-append : {r r' s s' : List Term} → AllMoved g h f d r r' → AllMoved g h f d s s' → AllMoved g h f d (r ++ s) (r' ++ s')
-  moved-append none k = k
-  moved-append (more e m) k = more e (moved-append m k)
-
-  moved-take : {r r' : List Term} (k : ℕ) → AllMoved g h f d r r' → AllMoved g h f d (take k r) (take k r')
-  moved-take zero m = none
-  moved-take (suc k) none = none
-  moved-take (suc k) (more e m) = more e (moved-take k m)
-
-  moved-drop : {r r' : List Term} (k : ℕ) → AllMoved g h f d r r' → AllMoved g h f d (drop k r) (drop k r')
-  moved-drop zero m = m
-  moved-drop (suc k) none = none
-  moved-drop (suc k) (more e m) = moved-drop k m
-
-  moved-reverse_onto : {r r' s s' : List Term} → AllMoved g h f d r r' → AllMoved g h f d s s' → AllMoved g h f d (reverse_aux r s) (reverse_aux r' s')
-  moved-reverse_onto none k = k
-  moved-reverse_onto (more e m) k = moved-reverse_onto m (more e k)
-
-  moved-spread : {us us' r r' : List Term} (k : ℕ) → AllMoved g h f d us us' → AllMoved g h f d r r' → AllMoved g h f d (spread k us r) (spread k us' r')
-  moved-spread k u m = moved-append (moved-append (moved-take k m) (moved-reverse_onto u none)) (moved-drop (k + 1) m)
-
-  moved-kept : {r r' : List Term} (ks : List ℕ) → AllMoved g h f d r r' → AllMoved g h f d (map (value_at r) ks) (map (value_at r') ks)
-  moved-kept [] m = none
-  moved-kept {r = r} {r' = r'} (k ∷ ks) m = more (moved-value_at r r' k m) (moved-kept ks m)
+  exact_all [] = nil
+  exact_all (w ∷ r) = one exact (exact_all r)
 
   moved-conv : {w w' : Term} → Moved g h f d w w' → Conv h w' (over f d w)
   moved-conv exact = C.same
   moved-conv (other e k) = C.back k
 
   moved-env : {r r' : List Term} → AllMoved g h f d r r' → ConvEnv h r' (map (over f d) r)
-  moved-env none = W.none
-  moved-env (more e m) = W.more (moved-conv e) (moved-env m)
+  moved-env nil = W.none
+  moved-env (one e m) = W.more (moved-conv e) (moved-env m)
 
   -- projections of w, which is no constructor, to the fields ks
   moved_each : (w : Term) (ks : List ℕ) (us : List Term) → ((i k : ℕ) (u : Term) → slice_get ks i ≡ Some k → slice_get us i ≡ Some u → Conv h (Proj k (over f d w)) u) → length ks ≡ length us
       → AllMoved g h f d (map (λ k. Proj k w) ks) us
-  moved_each w [] [] p e = none
+  moved_each w [] [] p e = nil
   moved_each w [] (u ∷ us) p e = absurd (omega (arith, e))
   moved_each w (k ∷ ks) [] p e = absurd (omega (arith, e))
-  moved_each w (k ∷ ks) (u ∷ us) p e = more (other refl (p 0 k u refl refl)) (moved_each w ks us (λ i. p (suc i)) (omega (arith, e)))
+  moved_each w (k ∷ ks) (u ∷ us) p e = one (other refl (p 0 k u refl refl)) (moved_each w ks us (λ i. p (suc i)) (omega (arith, e)))
 
   projected : (w w' : Term) (ks : List ℕ) → Conv h (over f d w) w' → AllMoved g h f d (map (λ k. Proj k w) ks) (map (λ k. Proj k w') ks)
-  projected w w' [] c = none
-  projected w w' (k ∷ ks) c = more (other refl (C.proj c)) (projected w w' ks c)
+  projected w w' [] c = nil
+  projected w w' (k ∷ ks) c = one (other refl (C.proj c)) (projected w w' ks c)
 
 -- each record split of the tree is one of a record with the property R
 module _ (R : ℕ → Type 0) where
@@ -178,13 +147,13 @@ module _ (g h : Signature Term) (shapes : FamiliesHaveShape h) (known : (w : Ter
     is = C.then (conv-elims (elims_over f d es) (conv-under t (moved-env g h f d m)))
         (conv_by (sym (over-elims f d (under r t) es ∙ ap (λ u. elims u (elims_over f d es)) (over-under f l d r t))));
   }
-  run-moved rs (run.intro p) m = let i = run-moved rs p (more exact m) in record { to = i.to; runs = run.intro i.runs; is = i.is }
+  run-moved rs (run.intro p) m = let i = run-moved rs p (one exact m) in record { to = i.to; runs = run.intro i.runs; is = i.is }
   run-moved rs (run.cosplit {bs = bs} {T = T} {f = k} e p) m = let i = run-moved (on_field R bs k T rs e) p m in record { to = i.to; runs = run.cosplit e i.runs; is = i.is }
   run-moved {r' = r'} rs (run.split {bs = bs} {b = b} {T = T} {r = r} {k = k} {c = c} e w p) m =
-      let i = run-moved (on_con R bs c.con (b, T) rs w) p (moved-kept g h f d b.keep (moved-spread g h f d k (exact_all g h f d c.args) m)) in
-      record { to = i.to; runs = run.split (moved-full (value_at r k) (value_at r' k) c e (moved-value_at g h f d r r' k m)) w i.runs; is = i.is }
+      let i = run-moved (on_con R bs c.con (b, T) rs w) p (pairwise-kept b.keep exact (pairwise-spread k (exact_all g h f d c.args) m)) in
+      record { to = i.to; runs = run.split (moved-full (value_at r k) (value_at r' k) c e (pairwise-value k exact m)) w i.runs; is = i.is }
   run-moved {r' = r'} rs (run.record_split {r = r} {k = k} {d = n} p) m =
-      let i = run-moved rs.1 p (moved-spread g h f d k (moved-parts n (value_at r k) (value_at r' k) rs.0 (moved-value_at g h f d r r' k m)) m) in
+      let i = run-moved rs.1 p (pairwise-spread k (moved-parts n (value_at r k) (value_at r' k) rs.0 (pairwise-value k exact m)) m) in
       record { to = i.to; runs = run.record_split i.runs; is = i.is }
 
 -- every tree, where nothing is asked
@@ -209,4 +178,4 @@ mutual
 -- over one signature
 pub run-changed : (g : Signature Term) → FamiliesHaveShape g → (f : ℕ → ℕ → Term) → IsLifted f → (d : ℕ) (T : Tree Term) (es : List Elim) (t : Term) → Run g T [] es t → RunsTo g T [] (elims_over f d es) (over f d t)
 run-changed g shapes f l d T es t p =
-    run-moved g g shapes (λ w c e. e) (λ n. Unit {0}) (λ n r. refl) (λ n w c r e. refl) f l d (every_record T) p none
+    run-moved g g shapes (λ w c e. e) (λ n. Unit {0}) (λ n r. refl) (λ n w c r e. refl) f l d (every_record T) p nil

@@ -14,7 +14,7 @@ use Rattle.core_rules.specs.ScopeLaws.{ElimInScope, ContextInScope}
 use Rattle.core_rules.proofs.Substitution.Lifted.{shift_twice}
 use Rattle.core_rules.proofs.Signature.Places.{def_stands, fam_stands, field-place}
 use Rattle.core_rules.proofs.Typing.Closed.{scoped_type, pi_over-in_scope, family-in_scope}
-use Rattle.core_rules.proofs.Typing.Scoped.{length-places, typing-in_scope}
+use Rattle.core_rules.proofs.Typing.Scoped.{length-places, typing-in_scope, all_of}
 use Rattle.core_rules.proofs.Scope.Known.{KnowsIds, knows_taken, knows_constructors, in_scope-known, telescope-known}
 use Rattle.core_rules.proofs.Scope.Changed.{Each, shift-in_scope, under-in_scope, each-reverse}
 
@@ -34,10 +34,6 @@ pub all_taken : {X : Type 0} (P : X → Type 0) (n : ℕ) (xs : List X) → AllB
 all_taken P zero xs h = tt
 all_taken P (suc n) [] h = tt
 all_taken P (suc n) (x ∷ xs) h = (h.0, all_taken P n xs h.1)
-
-pub all_of : {X : Type 0} (P : X → Type 0) (xs : List X) → ((i : ℕ) (x : X) → slice_get xs i ≡ Some x → P x) → AllByRecursion P xs
-all_of P [] h = tt
-all_of P (x ∷ xs) h = (h 0 x refl, all_of P xs (λ i. h (suc i)))
 
 module _ (g : Signature Term) (M : ℕ → ℕ → Type 0) where
   pub elims-in_scope : (n : ℕ) (t : Term) (es : List Elim) → InScope g M n t → AllByRecursion (ElimInScope g M n) es → InScope g M n (elims t es)

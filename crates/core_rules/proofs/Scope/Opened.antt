@@ -3,14 +3,13 @@ use Rattle.std.specs.Prelude.{◌≡◌, ℕ, ◌+◌, ◌-◌, ◌<◌, ◌≤�
 use Rattle.std.specs.List.{AllByRecursion}
 use Rattle.std.proofs.Common.{ap, sym, ◌∙◌, subst as transport, arith}
 use Rattle.std.proofs.lemmas.List.{length-map}
-use Rattle.core_rules.specs.Term.{Term, Terms, Var, Con, End, And, to_list, from_list}
+use Rattle.core_rules.specs.Term.{Term, Con, to_list, from_list}
 use Rattle.core_rules.specs.Substitution.{shift, under}
-use Rattle.core_rules.specs.Signature.{Signature, Entry, Telescope, Context, onto, ConDecl}
+use Rattle.core_rules.specs.Signature.{Signature, Telescope, Context, onto, ConDecl}
 use Rattle.core_rules.specs.Elimination.{args, vars_from}
 use Rattle.core_rules.specs.InScope.{InScope, AllInScope, TelescopeInScope, ConInScope, con_params}
-use Rattle.core_rules.specs.Unification.{Equation}
 use Rattle.core_rules.specs.TypedTree.{vars, into, entries_under, new_con, opened, Splitting, new_entries, con_context, with_con, equations, index_equations}
-use Rattle.core_rules.specs.ScopeLaws.{ElimInScope, ContextInScope, EquationInScope, SplittingInScope, ConstructorSplitInScope}
+use Rattle.core_rules.specs.ScopeLaws.{ContextInScope, EquationInScope, SplittingInScope, ConstructorSplitInScope}
 use Rattle.core_rules.proofs.Trees.Scoped.{length-entries_under, length-opened, length-con_context}
 use Rattle.core_rules.proofs.Scope.Changed.{Each, shift-in_scope, under-in_scope, each-reverse}
 use Rattle.core_rules.proofs.Scope.Declared.{all_append, elims-in_scope, args-in_scope, vars-in_scope}
@@ -72,8 +71,7 @@ module _ (g : Signature Term) (M : ℕ → ℕ → Type 0) where
       let b : k < length c = omega (arith, l) in
       let p : length (e ∷ c) - (suc k + 1) ≡ length c - (k + 1) = omega arith in
       let q : length (e ∷ c) - (suc k + 1) + length es ≡ length c - (k + 1) + length es = omega arith in
-      let h' : InScope g M (length c - (k + 1) + length es) u = moved (length (e ∷ c) - (suc k + 1) + length es) (length c - (k + 1) + length es) u q h in
-      (
+      let h' : InScope g M (length c - (k + 1) + length es) u = moved (length (e ∷ c) - (suc k + 1) + length es) (length c - (k + 1) + length es) u q h in (
         under-in_scope g M (length (opened k u es c)) (length c) (into k (length c) (length es) u) e.ty (into-in_scope k (length c) (length es) (length (opened k u es c)) u b (length-opened k u es c b) h') d.0,
         opened-in_scope k u es c b h' (transport (λ n. TelescopeInScope g M n es) p s) d.1,
       )

@@ -17,7 +17,7 @@ use Rattle.core_rules.specs.Laws.{IsLifted, RunsTo}
 use Rattle.core_rules.proofs.Substitution.Traversal.{over_id}
 use Rattle.core_rules.proofs.Substitution.Lifted.{shift_variable}
 use Rattle.core_rules.proofs.Run.Records.{goes_on}
-use Rattle.core_rules.proofs.Run.Moved as moved
+use Rattle.core_rules.proofs.Pairwise as moved
 use Rattle.core_rules.proofs.Run.Moved.{RecordsOf, RecordsOfFields, RecordsOfCons, run-moved}
 use Rattle.core_rules.proofs.Conversion.Changed.{conv_by}
 use Rattle.core_rules.proofs.Signature.Places.{def_stands}
@@ -85,7 +85,7 @@ module _ (g h : Signature Term) (s : SignatureInScope g any_meta) (shapes : Fami
   pub run-grown : (f : ℕ) (T : Tree Term) (es : List Elim) (t : Term) → tree_of g f ≡ Some T → Run g T [] es t → RunsTo (g ++ h) T [] es t
   run-grown f T es t e r =
       let m : RunsTo (g ++ h) T [] (elims_over stay 0 es) (over stay 0 t) = run-moved g (g ++ h) shapes (full-known g h) (λ n. n < length (fams g)) (λ n b. fields-known g h n b) (λ n w c b e. record-known g h n w c b e)
-      stay stay_lifted 0 (tree_records g s f T e) r moved.none in
+      stay stay_lifted 0 (tree_records g s f T e) r moved.nil in
       rw (elims-stay es, stays t) at m
 
   eta-grown : (k d : ℕ) (t : Term) (ps : Terms) (is : IsEtaCon g k d) → Conv (g ++ h) t (elims (Con k ps) (args is.con.args (projections g d t)))

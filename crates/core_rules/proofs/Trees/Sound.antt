@@ -1,5 +1,5 @@
 -- Sound signatures: derivable ones, and those with a function that is known without its tree. There head forms and a yes are sound.
-use Rattle.std.specs.Prelude.{◌≡◌, ℕ, ◌<◌, ◌≤◌, ◌⊎◌, List, [], ◌∷◌, ◌++◌, length, take, slice_get, Some, refl, zero, suc}
+use Rattle.std.specs.Prelude.{◌≡◌, ℕ, ◌<◌, ◌≤◌, ◌⊎◌, List, [], ◌∷◌, ◌++◌, length, take, slice_get, Some, refl}
 use Rattle.std.proofs.Common.{ap, sym, ◌∙◌, arith, ⊎_elim, subst as transport}
 use Rattle.std.proofs.lemmas.List.{take-append-le, take_all}
 use Rattle.core_rules.specs.Term.{Term, HasNoMeta, Def}

@@ -2,7 +2,6 @@
 use Rattle.std.specs.Prelude.{◌≡◌, ℕ, List, [], ◌∷◌, ◌++◌, length}
 use Rattle.std.specs.List.{AllByRecursion}
 use Rattle.std.proofs.Common.{arith}
-use mathlib.Core.List.{reverse_aux}
 use Rattle.core_rules.specs.Term.{Term, Terms, App, Fam, Proj, End, And, to_list, AllMetasIn, HasNoMeta}
 use Rattle.core_rules.specs.Signature.{Signature, Context, Telescope, onto, Tree, CoBranches, ConBranches, FamDecl, ConDecl, Decl, Postulate, Family, Open, Function, without_cons, fams}
 use Rattle.core_rules.specs.Mapped.{AllEntries, AllTree, AllCoBranches, AllConBranches, AllCon, AllFamily, AllDecl}
@@ -14,11 +13,7 @@ use Rattle.core_rules.specs.TypedTree.{Splitting, TypedTree, TypedFields, TypedB
 use Rattle.core_rules.specs.Derivable as D
 use Rattle.core_rules.specs.Derivable.{IsWithin, GoodCon, GoodFamily, Good}
 use Rattle.core_rules.specs.Laws.{ClausesHaveNoMeta}
-use Rattle.core_rules.proofs.Typing.Scoped.{all_of}
-
-all-reversed : (P : Term → Type 0) (xs ys : List Term) → AllByRecursion P (reverse_aux xs ys) → AllByRecursion P xs × AllByRecursion P ys
-all-reversed P [] ys h = (tt, h)
-all-reversed P (x ∷ xs) ys h = let k = all-reversed P xs (x ∷ ys) h in ((k.1.0, k.0), k.1.1)
+use Rattle.core_rules.proofs.Typing.Scoped.{all-reversed, all_of}
 
 all_metas : (ts : Terms) → AllByRecursion HasNoMeta (to_list ts) → AllMetasIn (λ m. ⊥) ts
 all_metas End h = tt

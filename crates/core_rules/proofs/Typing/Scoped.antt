@@ -35,7 +35,7 @@ fits-length T.none = refl
 fits-length (T.more h k) = ap suc (fits-length h)
 
 module _ (P : Term → Type 0) where
-  all-reversed : (xs ys : List Term) → AllByRecursion P (reverse_aux xs ys) → AllByRecursion P xs × AllByRecursion P ys
+  pub all-reversed : (xs ys : List Term) → AllByRecursion P (reverse_aux xs ys) → AllByRecursion P xs × AllByRecursion P ys
   all-reversed [] ys h = (tt, h)
   all-reversed (x ∷ xs) ys h = let k = all-reversed xs (x ∷ ys) h in ((k.1.0, k.0), k.1.1)
 
