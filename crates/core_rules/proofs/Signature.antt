@@ -4,3 +4,4 @@ pub mod Growth
 pub mod Known
 pub mod Grown
 pub mod Closing
+pub mod FamilyKnown

@@ -8,4 +8,5 @@ pub mod Keeping
 pub mod Append
 pub mod Middle
 pub mod Swap
+pub mod Solving
 pub mod Needed

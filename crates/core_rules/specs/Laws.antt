@@ -4,7 +4,7 @@ use Rattle.std.specs.List.{AllByRecursion}
 use Rattle.core_rules.specs.declared.Flag.{Flag}
 use Rattle.core_rules.specs.Term.{Term, Terms, Var, Sort, Pi, Lam, App, Def, Fam, Con, Proj, Meta, IsSameTerm, HasNoMeta}
 use Rattle.core_rules.specs.Substitution.{over, shift, shift_var, subst, under, env_var, value_at}
-use Rattle.core_rules.specs.Signature.{Entry, Context, CoreClause, Tree, Decl, Postulate, Family, Open, Function, Signature}
+use Rattle.core_rules.specs.Signature.{Entry, Context, onto, CoreClause, Tree, FamDecl, without_cons, Decl, Postulate, Family, Open, Function, Signature}
 use Rattle.core_rules.specs.Mapped.{AllClause, AllDecl}
 use Rattle.core_rules.specs.Elimination.{Elim, elims, elims_over}
 use Rattle.core_rules.specs.Run.{Run}
@@ -211,3 +211,7 @@ ClausesHaveNoMeta (Function x a qs T) = AllByRecursion (AllClause HasNoMeta) qs
 
 abbrev pub GoodHasNoMeta : Type 0
 GoodHasNoMeta = (g : Signature Term) (d : Decl Term) → Good g d → ClausesHaveNoMeta d → AllDecl HasNoMeta d
+
+-- while its constructors are checked the family is known as a data type without constructors
+abbrev pub FamilyKnownDerivable : Type 0
+FamilyKnownDerivable = (g : Signature Term) (d : FamDecl Term) → Derivable g → WellFormed g (onto d.indices (onto d.params [])) → Derivable (g ++ Family (without_cons d) ∷ [])

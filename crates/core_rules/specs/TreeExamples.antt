@@ -2,11 +2,12 @@
 use Rattle.std.specs.Prelude.{true, false, ℕ, [], ◌∷◌, Some}
 use Rattle.core_rules.specs.declared.Flag.TheVariants.{Explicit, Implicit}
 use Rattle.core_rules.specs.Term.{Term, Terms, Var, Sort, Pi, App, Def, Fam, Con, Proj, End, And}
-use Rattle.core_rules.specs.Signature.{Branch, Tree, Leaf, Intro, Cosplit, Split, RecordSplit, NoField, OnField, NoCon, Goes, ConDecl, FamDecl, Family, Open, Function, Signature}
+use Rattle.core_rules.specs.Signature.{Context, Branch, Tree, Leaf, Intro, Cosplit, Split, RecordSplit, NoField, OnField, NoCon, Goes, ConDecl, FamDecl, Family, Open, Function, Signature}
 use Rattle.core_rules.specs.Elimination.{Arg}
 use Rattle.core_rules.specs.Run.{Run}
 use Rattle.core_rules.specs.Conversion.{Conv}
 use Rattle.core_rules.specs.Typing.{entry}
+use Rattle.core_rules.specs.Unification.{CanSolve, whole_types}
 use Rattle.core_rules.specs.TypedTree.{TypedTree}
 use Rattle.core_rules.specs.Derivable.{Derivable}
 use Rattle.core_rules.specs.Heads.{Form, Heads}
@@ -159,6 +160,14 @@ SwapUnfolds = (a b c d x y : Term) (i : ℕ) → Conv swaps (swap_term 0 a b (pa
 
 abbrev pub TurnUnfolds : Type 0
 TurnUnfolds = (a b p : Term) → Conv swaps (Proj 0 (swap_term 1 a b p)) (Proj 1 p) × Conv swaps (Proj 1 (swap_term 1 a b p)) (Proj 0 p)
+
+-- three variables: A has a sort, x has A as its type, and y has x as its type. Neither A nor x can be solved by y, since the type of y
+-- depends on them, on A through that of x; y can be solved by A, and nothing by a term in which it stands
+abbrev pub chain : Context Term
+chain = entry Explicit 0 (Var 0) ∷ entry Explicit 0 (Var 0) ∷ entry Explicit 0 (Sort 0) ∷ []
+
+abbrev pub SolvingAsksForTypes : Type 0
+SolvingAsksForTypes = (CanSolve (whole_types 0 chain) 2 (Var 0) → ⊥) × (CanSolve (whole_types 0 chain) 1 (Var 0) → ⊥) × CanSolve (whole_types 0 chain) 0 (Var 2) × (CanSolve (whole_types 0 chain) 2 (suc_term (Var 2)) → ⊥)
 
 -- Why regular trees ask for eta. Box is a record with one field, value : Nat, and no eta; g has value suc zero; and h takes a box apart as
 -- if it had eta, and then splits the value. By head forms h g unfolds to zero, but its tree gives nothing at g

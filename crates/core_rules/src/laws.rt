@@ -1,7 +1,7 @@
 //! Laws of the definitions. Each is the contract of a function that does nothing, on which a crate above, or a reader, can rest.
 //! The statements stand in `specs/Laws.antt`, under the same names.
 
-ghost use Rattle.core_rules.specs.Laws.{TraversalIdentity, TraversalComposition, TraversalExchange, ShiftAfterShift, ShiftsExchange, SubstitutionInShifted, ShiftOfSubstitution, OuterShiftOfSubstitution, SubstitutionAfterSubstitution, ShiftOfEnvironment, SubstitutionOfEnvironment, EnvironmentOfEnvironment, EnvironmentInShifted, EnvironmentInSubstituted, ChangeOfShifted, ChangeOfSubstituted, ChangeOfEnvironment, OneRun, SameTermsConvert, ConversionUnderEliminations, ConversionOfShifted, ConversionOfSubstituted, ConversionOfEnvironments, Weakening, TypingOfSubstituted, TypingOfEnvironment, ShapeInScope, RunOfShifted, RunOfSubstituted, TypedInScope, DerivableInScope, InversionOfVariable, InversionOfSort, InversionOfPi, InversionOfLambda, InversionOfApplication, InversionOfDefinition, InversionOfFamily, InversionOfConstructor, InversionOfProjection, NoTypeOfMetavariable, ConversionGrows, TypingGrows, ConversionOfClosed, TypingOfClosed, DerivableExtended, DerivableTaken, FitsIdentity, FitsWeakened, FitsComposed, TypingOfConvertibleContext, FitsOfConvertibleContext, TypedHasNoMeta, GoodHasNoMeta};
+ghost use Rattle.core_rules.specs.Laws.{TraversalIdentity, TraversalComposition, TraversalExchange, ShiftAfterShift, ShiftsExchange, SubstitutionInShifted, ShiftOfSubstitution, OuterShiftOfSubstitution, SubstitutionAfterSubstitution, ShiftOfEnvironment, SubstitutionOfEnvironment, EnvironmentOfEnvironment, EnvironmentInShifted, EnvironmentInSubstituted, ChangeOfShifted, ChangeOfSubstituted, ChangeOfEnvironment, OneRun, SameTermsConvert, ConversionUnderEliminations, ConversionOfShifted, ConversionOfSubstituted, ConversionOfEnvironments, Weakening, TypingOfSubstituted, TypingOfEnvironment, ShapeInScope, RunOfShifted, RunOfSubstituted, TypedInScope, DerivableInScope, InversionOfVariable, InversionOfSort, InversionOfPi, InversionOfLambda, InversionOfApplication, InversionOfDefinition, InversionOfFamily, InversionOfConstructor, InversionOfProjection, NoTypeOfMetavariable, ConversionGrows, TypingGrows, ConversionOfClosed, TypingOfClosed, DerivableExtended, DerivableTaken, FitsIdentity, FitsWeakened, FitsComposed, TypingOfConvertibleContext, FitsOfConvertibleContext, TypedHasNoMeta, GoodHasNoMeta, FamilyKnownDerivable};
 
 /// A change that leaves each variable as it is leaves each term as it is.
 pub fn traversal_identity()
@@ -271,4 +271,9 @@ pub fn typed_has_no_meta()
 /// No metavariable stands in a good declaration, but in its clauses, of which being good asks nothing.
 pub fn good_has_no_meta()
     ensures { GoodHasNoMeta }
+{}
+
+/// A derivable signature stays so with a family that is known without constructors and fields, as while these are checked.
+pub fn family_known_derivable()
+    ensures { FamilyKnownDerivable }
 {}

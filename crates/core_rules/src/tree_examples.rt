@@ -2,7 +2,7 @@
 //! The signatures, the trees and the statements stand in `specs/TreeExamples.antt`, `specs/Addition.antt` and `specs/VectorHead.antt`.
 
 ghost use Rattle.core_rules.specs.VectorHead.{FirstTyped};
-ghost use Rattle.core_rules.specs.TreeExamples.{AdditionDerivable, PlusUnfolds, FirstDerivable, FirstUnfolds, AppendDerivable, AppendUnfolds, AgainTyped, AgainUnfolds, SwapsDerivable, SwapUnfolds, TurnUnfolds, EtaIsNeeded, KeepingApartIsNeeded};
+ghost use Rattle.core_rules.specs.TreeExamples.{AdditionDerivable, PlusUnfolds, FirstDerivable, FirstUnfolds, AppendDerivable, AppendUnfolds, AgainTyped, AgainUnfolds, SwapsDerivable, SwapUnfolds, TurnUnfolds, SolvingAsksForTypes, EtaIsNeeded, KeepingApartIsNeeded};
 
 /// The natural numbers with addition by its case tree are derivable.
 pub fn addition_derivable()
@@ -65,6 +65,11 @@ pub fn swap_unfolds()
 /// The cosplit unfolds under each projection.
 pub fn turn_unfolds()
     ensures { TurnUnfolds }
+{}
+
+/// A variable is not solved by one whose type depends on it, also through another type, nor by a term in which it stands.
+pub fn solving_asks_for_types()
+    ensures { SolvingAsksForTypes }
 {}
 
 /// Where a record split is of a record without eta, a call can come to a head form although its tree gives nothing.
