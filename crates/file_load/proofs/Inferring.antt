@@ -113,6 +113,8 @@ all_defs P (Function x b qs T ∷ g) a = (a.0, all_defs P g a.1)
 
 entry_holds : (P : ℕ → Type 0) (x a : ℕ) (s : DefState) → AllDecl P (state_decl x a s) → P a
 entry_holds P x a state.Postulate h = h
+entry_holds P x a state.Open h = h
+entry_holds P x a (state.Closed qs T) h = h.0
 
 pub def_at : (p : Pool) (g : Signature ℕ) (d : ℕ) (e : DefEntry) → Stands p g → def_decl g d ≡ Some (entry_decl e) → StandsForSome p e.ty (def_type (signature_in p g) d)
 def_at p g d e stands is = record {
