@@ -135,6 +135,8 @@ all_at P (y ∷ xs) (suc i) x a e = all_at P xs i x a.1 e
 
 entry_holds : (P : ℕ → Type 0) (x a : ℕ) (s : DefState) → AllDecl P (state_decl x a s) → P a
 entry_holds P x a state.Postulate h = h
+entry_holds P x a state.Open h = h
+entry_holds P x a (state.Closed qs T) h = h.0
 
 pub def_at : (p : Pool) (g : Signature ℕ) (d : ℕ) (e : DefEntry) → Stands p g → def_decl g d ≡ Some (entry_decl e) → StandsForSome p e.ty (def_type (signature_in p g) d)
 def_at p g d e stands is = record {

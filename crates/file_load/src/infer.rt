@@ -361,6 +361,11 @@ pub fn type_of_term(
             type_of_application(alloc, pool, signature, same, context, fun, argument)
         }
         Node::Def(def) => Ok(type_of_def(pool, signature, def)),
+        Node::Lam { .. }
+        | Node::Fam(_)
+        | Node::Con { .. }
+        | Node::Proj { .. }
+        | Node::Meta { .. } => Ok(None),
     }
 }
 

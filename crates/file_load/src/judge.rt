@@ -33,7 +33,7 @@ fn postulate(signature: &mut Signature, names: &[ResolvedName], ty: TermId) -> R
     ensures { OnOk result (signature.new ≡ signature.old ++ postulates_of names.now ty) }
 {
     for name in names {
-        signature.add(&CoreDecl::Postulate { name: name.id, ty })?;
+        signature.add(CoreDecl::Postulate { name: name.id, ty })?;
     }
     Ok(())
 }
