@@ -24,3 +24,12 @@ one-acyclic p m i n h = record { rank = λ k. 0; falls = λ k t e. by_test (eqb 
     by_test : (b : Bool) (t : Term) → option_map (tree p) (cond b (Some i) None) ≡ Some t → AllMetas (λ k. 0 < 0) t
     by_test true t e = subst (AllMetas (λ k. 0 < 0)) (sym h ∙ same_Some (tree p i) t e) tt
     by_test false t e = absurd cc
+
+abbrev pub none : ℕ → Option ℕ
+none k = None
+
+pub none-in : (p : Pool) → AreIn p none
+none-in p = record { within = λ k j e. absurd cc }
+
+pub none-acyclic : (p : Pool) → IsAcyclic (solved_in p none)
+none-acyclic p = record { rank = λ k. 0; falls = λ k t e. absurd cc }

@@ -13,9 +13,9 @@ use std::alloc::Global;
 
 /// A term that stands in the pool as a node.
 fn added(pool: &mut TermPool, node: Node) -> Result<Option<TermId>, NoMemory>
-    requires { Below (length pool.old.trees) pool.old.ids node }
+    requires { Below (tree pool.old) (length pool.old.trees) node }
     ensures extends { Extends pool.old pool.new }
-    ensures is { IfOk result (λ o. Answers pool.new o (Some (node_tree (tree pool.old) pool.old.ids node))) }
+    ensures is { IfOk result (λ o. Answers pool.new o (Some (node_tree (tree pool.old) node))) }
 {
     let term = pool.add(node)?;
     Ok(Some(term))

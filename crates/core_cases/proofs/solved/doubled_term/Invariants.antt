@@ -1,0 +1,6 @@
+use Rattle.std.proofs.Common.{◌<◌, length}
+use Rattle.core_terms.specs.Pool.{Extends}
+use Rattle.core_cases.proofs.solved.doubled_term.Given as goal
+
+abbrev pub invariant-loop : goal.invariant-loop
+invariant-loop l = record { extends : Extends l.fn.pool l.pool; within : l.term < length l.pool.trees }
