@@ -1,4 +1,4 @@
-ghost use Rattle.std.specs.Prelude.{◌≡◌, None, Some, Err, IfOk, is_some, map, string_bytes, true};
+ghost use Rattle.std.specs.Prelude.{◌≡◌, ◌↔◌, None, Some, Err, IfOk, is_some, map, string_bytes, true};
 ghost use Rattle.clap.specs.Words.{found_of};
 ghost use Rattle.command_line.specs.Ask.{AreInRange, ask_of, limits_of, mode_of};
 ghost use Rattle.command_line.specs.Command.{parts_in};
@@ -82,10 +82,10 @@ fn read_limits(matches: &ArgMatches) -> Limits
     }
 }
 
-/// What the words ask for: the words after the program's name.
+/// What the words ask for: the words after the program's name. To refuse words takes no memory.
 pub fn read_words(alloc: Global, words: &[String]) -> Result<Ask, WordsError>
     ensures ask { IfOk result (λ ask. ask_of (map string_bytes words.now) ≡ Some ask) }
-    ensures refused { result ≡ Err WordsError.Refused → ask_of (map string_bytes words.now) ≡ None }
+    ensures refused { (result ≡ Err WordsError.Refused) ↔ (ask_of (map string_bytes words.now) ≡ None) }
     ensures ranges { IfOk result (λ ask. AreInRange ask.limits) }
 {
     if !is_accepted(words) {
