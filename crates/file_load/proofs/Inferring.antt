@@ -22,7 +22,6 @@ use Rattle.core_terms.proofs.SignatureGrowth.{signature_in-extends, Stands-exten
 use Rattle.file_load.specs.Accept.{applied, at_argument, level_of, sort_level, sort_of_pi, type_of}
 use Rattle.file_load.specs.Equal.{same_flag, same_term}
 use Rattle.file_load.specs.Inferred.{IsReady, IsSpine, StandsForSome, context_in, typed_in, unwound}
-use Rattle.file_load.specs.Same.{IsOf}
 use Rattle.file_load.specs.declared.infer.Argument.{Argument}
 use Rattle.file_load.specs.declared.infer.Spine.{Spine}
 use Rattle.file_load.proofs.Equal.{same_term-is, same_term-from}
@@ -39,10 +38,9 @@ telescope_map-same f h P same (e ∷ es) a = cc (same e.ty a.0, telescope_map-sa
 context_in-extends : (p q : Pool) (es : List (Entry ℕ)) → Extends p q → AllEntries (λ t. t < length p.trees) es → context_in q es ≡ context_in p es
 context_in-extends p q es e a = ap (λ (ts : List (Entry Term)). onto ts []) (telescope_map-same (tree q) (tree p) (λ t. t < length p.trees) (λ t l. Extends-tree t e l) es a)
 
-module _ {g : Signature ℕ} {ts : List Term} {es : List (Entry ℕ)} (p q : Pool) (e : Extends p q) (r : IsReady p g ts es) where
-  -- what is ready stays so, with what is known of the same terms of the larger pool
-  pub ready-extends : (us : List Term) → IsOf us q → IsReady q g us es
-  ready-extends us of = record { signature = Stands-extends p q g e r.signature; same = of; context = entries-weaker p q es e r.context }
+module _ {g : Signature ℕ} {es : List (Entry ℕ)} (p q : Pool) (e : Extends p q) (r : IsReady p g es) where
+  pub ready-extends : IsReady q g es
+  ready-extends = record { signature = Stands-extends p q g e r.signature; context = entries-weaker p q es e r.context }
 
   type_of-extends : (t : Term) → type_of (signature_in q g) (context_in q es) t ≡ type_of (signature_in p g) (context_in p es) t
   type_of-extends t =
@@ -52,15 +50,14 @@ module _ {g : Signature ℕ} {ts : List Term} {es : List (Entry ℕ)} (p q : Poo
   level_of-extends : (t : Term) → level_of (signature_in q g) (context_in q es) t ≡ level_of (signature_in p g) (context_in p es) t
   level_of-extends t = ap (option_and_then sort_level) (type_of-extends t)
 
-pub ready-push : (p : Pool) (g : Signature ℕ) (ts : List Term) (es : List (Entry ℕ)) (x : Entry ℕ) → IsReady p g ts es → x.ty < length p.trees → IsReady p g ts (es ++ x ∷ [])
-ready-push p g ts es x r l = record { signature = r.signature; same = r.same; context = all-push (λ (y : Entry ℕ). y.ty < length p.trees) es x r.context l }
+pub ready-push : (p : Pool) (g : Signature ℕ) (es : List (Entry ℕ)) (x : Entry ℕ) → IsReady p g es → x.ty < length p.trees → IsReady p g (es ++ x ∷ [])
+ready-push p g es x r l = record { signature = r.signature; context = all-push (λ (y : Entry ℕ). y.ty < length p.trees) es x r.context l }
 
 -- ---- contexts
 
 onto-push : (es : List (Entry Term)) (x : Entry Term) (c : Context Term) → onto (es ++ x ∷ []) c ≡ x ∷ onto es c
 onto-push [] x c = refl
 onto-push (y ∷ es) x c = onto-push es x (y ∷ c)
-
 
 context_in-push : (p : Pool) (es : List (Entry ℕ)) (x : Entry ℕ) → context_in p (es ++ x ∷ []) ≡ entry x.flag x.name (tree p x.ty) ∷ context_in p es
 context_in-push p es x = ap (λ (ts : List (Entry Term)). onto ts []) (map_push (entry_map (tree p)) es x) ∙ onto-push (telescope_map (tree p) es) (entry_map (tree p) x) []
@@ -169,7 +166,7 @@ pub head-refused : (g : Signature Term) (c : Context Term) (p : Pool) (t : Term)
 head-refused g c p t n s i refused = ap (type_of g c) i.is ∙ refused-unwound g c p (tree p s.head) s.arguments.items refused
 
 -- one more of the arguments, in a pool that has grown
-module _ {p q : Pool} {g : Signature ℕ} {ts : List Term} {es fs : List (Entry ℕ)} {f ty : ℕ} {a : Argument} (r : IsReady p g ts es) (e : Extends p q) (kept : fs ≡ es) (next : Argument) (xs zs : List Argument)
+module _ {p q : Pool} {g : Signature ℕ} {es fs : List (Entry ℕ)} {f ty : ℕ} {a : Argument} (r : IsReady p g es) (e : Extends p q) (kept : fs ≡ es) (next : Argument) (xs zs : List Argument)
     (reading : IsReading p g es f a q ty zs) (last : zs ≡ xs ++ next ∷ []) (within : next.term < length p.trees) where
   same_type : applied next.flag (Some (tree q ty)) (typed_in q g fs next.term) (tree q next.term) ≡ type_of (signature_in p g) (context_in p es) (App next.flag reading.function (tree p next.term))
   same_type =
@@ -195,9 +192,9 @@ module _ {p q : Pool} {g : Signature ℕ} {ts : List Term} {es fs : List (Entry 
 -- ---- types of functions
 
 -- what is read of a term of p stays so in a pool that has grown
-pub level-same : {p q : Pool} {g : Signature ℕ} {ts : List Term} {es : List (Entry ℕ)} (r : IsReady p g ts es) (e : Extends p q) (t : ℕ) → t < length p.trees
+pub level-same : {p q : Pool} {g : Signature ℕ} {es : List (Entry ℕ)} (r : IsReady p g es) (e : Extends p q) (t : ℕ) → t < length p.trees
     → level_of (signature_in q g) (context_in q es) (tree q t) ≡ level_of (signature_in p g) (context_in p es) (tree p t)
-level-same {p} {q} {g} {ts} {es} r e t l = level_of-extends p q e r (tree q t) ∙ ap (level_of (signature_in p g) (context_in p es)) (Extends-tree t e l)
+level-same {p} {q} {g} {es} r e t l = level_of-extends p q e r (tree q t) ∙ ap (level_of (signature_in p g) (context_in p es)) (Extends-tree t e l)
 
 -- the type of functions from E to id cod is read as the greatest level so far and the level of id rest in the context es
 abbrev pub IsWalk : Pool → Signature ℕ → List (Entry ℕ) → Entry ℕ → ℕ → List (Entry ℕ) → ℕ → ℕ → Type 0
@@ -218,7 +215,7 @@ pub first-refused : (p : Pool) (g : Signature ℕ) (outer : List (Entry ℕ)) (E
     → type_of (signature_in p g) (context_in p outer) (Pi E.flag E.name (tree p E.ty) (tree p cod)) ≡ None
 first-refused p g outer E cod refused = ap (λ (o : Option ℕ). sort_of_pi o (level_of (signature_in p g) (entry E.flag E.name (tree p E.ty) ∷ context_in p outer) (tree p cod))) (sym refused)
 
-module _ {p q : Pool} {g : Signature ℕ} {ts : List Term} {es : List (Entry ℕ)} (outer : List (Entry ℕ)) (E : Entry ℕ) (cod top rest : ℕ) (r : IsReady p g ts es) (e : Extends p q) (w : IsWalk p g outer E cod es top rest) where
+module _ {p q : Pool} {g : Signature ℕ} {es : List (Entry ℕ)} (outer : List (Entry ℕ)) (E : Entry ℕ) (cod top rest : ℕ) (r : IsReady p g es) (e : Extends p q) (w : IsWalk p g outer E cod es top rest) where
   pub walk-refused : rest < length p.trees → None ≡ level_of (signature_in q g) (context_in q es) (tree q rest)
       → type_of (signature_in p g) (context_in p outer) (Pi E.flag E.name (tree p E.ty) (tree p cod)) ≡ None
   walk-refused l refused = w ∙ ap (sort_of_pi (Some top)) (sym (refused ∙ level-same r e rest l))
@@ -253,8 +250,8 @@ module _ {p q : Pool} {g : Signature ℕ} {ts : List Term} {es : List (Entry ℕ
         ∙ ap (λ (o : Option Term). sort_of_pi (Some top) (option_and_then sort_level o)) (walk-first p g es F next m (level ∙ level-same r e F.ty within))
         ∙ sort-twice top m (level_of (signature_in p g) (context_in p (es ++ F ∷ [])) (tree p next))
 
-    pub step-ready : IsReady p g ts (es ++ F ∷ [])
-    step-ready = ready-push p g ts es F r within
+    pub step-ready : IsReady p g (es ++ F ∷ [])
+    step-ready = ready-push p g es F r within
 
 -- what stands before an entry that is pushed
 pub outer-push : {A : Type 0} (outer es fs : List A) (x : A) → fs ≡ es ++ x ∷ [] → length outer ≤ length es → take (length outer) es ≡ outer → take (length outer) fs ≡ outer

@@ -17,9 +17,7 @@ use Rattle.resolved_tree.specs.declared.resolved.ResolvedSignature.{ResolvedSign
 use Rattle.file_load.specs.declared.state.Core.{Core}
 use Rattle.file_load.specs.Accept.{level_of, postulates, with_type, with_line, with_lines}
 use Rattle.file_load.specs.Translated.{term_of}
-use Rattle.file_load.specs.Same.{IsOf}
 use Rattle.file_load.specs.Judged.{Agrees, IsDeclared, IsPostulate, IsNew, declared, postulates_of}
-use Rattle.file_load.proofs.Sameness.{IsOf-new, IsOf-Extends}
 
 -- ---- postulates of one type
 
@@ -56,9 +54,9 @@ no_term g s is = ap (option_and_then (with_type g s.names)) is
 
 -- the pool p is what the translation left, and the type t stands in it
 pub accepts : (old new : Core) (s : ResolvedSignature) (p : Pool) (t : ℕ) → Agrees old → Extends old.pool p → Extends p new.pool → t < length p.trees → term_of s.ty ≡ Some (tree p t)
-    → IsOf new.same new.pool → is_some (level_of (signature_in p old.signature) [] (tree p t)) ≡ true
+    → is_some (level_of (signature_in p old.signature) [] (tree p t)) ≡ true
     → new.signature ≡ old.signature ++ postulates_of s.names t → new.scope ≡ old.scope → IsDeclared old new (with_line (declared old) s)
-accepts old new s p t a e f within is same good signature scope =
+accepts old new s p t a e f within is good signature scope =
     let g : Extends old.pool new.pool = Extends-trans e f in
     let bound : t < length new.pool.trees = omega (arith, Extends-length f, within) in
     let before : signature_in p old.signature ≡ declared old = signature_in-extends old.pool p old.signature e a.stands in
@@ -73,7 +71,6 @@ accepts old new s p t a e f within is same good signature scope =
       agrees = record {
         postulates = rw signature (all-append IsPostulate old.signature (postulates_of s.names t) a.postulates (are_postulates s.names t));
         stands = rw signature (all-append _ old.signature (postulates_of s.names t) (Stands-extends old.pool new.pool old.signature g a.stands) (stand new.pool s.names t bound));
-        same = same;
       };
       scope = scope;
       accepted = ap (option_and_then (with_type (declared old) s.names)) is ∙ accepted_type (declared old) s.names (tree p t) known ∙ ap Some (sym now);
@@ -82,9 +79,6 @@ accepts old new s p t a e f within is same good signature scope =
 -- what is_type asks, once the type was translated
 pub still_stands : (old : Core) (p : Pool) → Agrees old → Extends old.pool p → Stands p old.signature
 still_stands old p a e = Stands-extends old.pool p old.signature e a.stands
-
-pub still_same : (old : Core) (p : Pool) → Agrees old → Extends old.pool p → IsOf old.same p
-still_same old p a e = IsOf-Extends a.same e
 
 pub before : (old : Core) (p : Pool) → Agrees old → Extends old.pool p → signature_in p old.signature ≡ declared old
 before old p a e = signature_in-extends old.pool p old.signature e a.stands
@@ -102,16 +96,14 @@ lines_end g ss i le = ap (with_lines g) (drop_all i ss le)
 
 -- ---- declarations
 
-pub agrees_so : (old new : Core) → new.pool ≡ old.pool → new.signature ≡ old.signature → new.same ≡ old.same → Agrees old → Agrees new
-agrees_so old new p g s a = record {
+pub agrees_so : (old new : Core) → new.pool ≡ old.pool → new.signature ≡ old.signature → Agrees old → Agrees new
+agrees_so old new p g a = record {
   postulates = rw g a.postulates;
   stands = rw (p, g) a.stands;
-  same = rw (p, s) a.same;
 }
 
 pub agrees_new : (k : Core) → IsNew k → Agrees k
 agrees_new k n = record {
   postulates = rw n.signature tt;
   stands = rw n.signature tt;
-  same = rw n.same (IsOf-new k.pool);
 }

@@ -5,7 +5,6 @@ pub mod Firsts
 pub mod Inferring
 pub mod Judging
 pub mod Loading
-pub mod Sameness
 pub mod Translating
 pub mod Told
 pub mod TranslatedTypes

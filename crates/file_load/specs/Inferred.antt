@@ -7,7 +7,6 @@ use Rattle.core_rules.specs.Mapped.{AllEntries, telescope_map}
 use Rattle.core_terms.specs.Pool.{Pool, tree}
 use Rattle.core_terms.specs.Signature.{Stands, signature_in}
 use Rattle.file_load.specs.Accept.{type_of}
-use Rattle.file_load.specs.Same.{IsOf}
 use Rattle.file_load.specs.declared.infer.Argument.{Argument}
 use Rattle.file_load.specs.declared.infer.Spine.{Spine}
 
@@ -19,10 +18,9 @@ context_in p es = onto (telescope_map (tree p) es) []
 abbrev pub typed_in : Pool → Signature ℕ → List (Entry ℕ) → ℕ → Option Term
 typed_in p g es t = type_of (signature_in p g) (context_in p es) (tree p t)
 
--- what the reading is over: all ids stand in the pool, of which ts are the first terms
-pub record IsReady (p : Pool) (g : Signature ℕ) (ts : List Term) (es : List (Entry ℕ)) : Type 0 where
+-- what the reading is over: all ids stand in the pool
+pub record IsReady (p : Pool) (g : Signature ℕ) (es : List (Entry ℕ)) : Type 0 where
   pub signature : Stands p g
-  pub same : IsOf ts p
   pub context : AllEntries (λ t. t < length p.trees) es
 
 -- id a stands in p for the term of o

@@ -11,7 +11,6 @@ use Rattle.scope_table.specs.Known.{nothing_known}
 use Rattle.file_load.specs.declared.state.Core.{Core}
 use Rattle.session_text.specs.declared.error.LoadError.{LoadError}
 use Rattle.file_load.specs.Load.{Declares, Outcome}
-use Rattle.file_load.specs.Same.{IsOf}
 
 -- the signature of trees that was declared so far
 abbrev pub declared : Core → Signature Term
@@ -27,7 +26,6 @@ IsPostulate (Function x a qs T) = ⊥
 pub record Agrees (k : Core) : Type 0 where
   pub postulates : AllByRecursion IsPostulate k.signature
   pub stands : Stands k.pool k.signature
-  pub same : IsOf k.same k.pool
 
 -- the postulates of these names, whose type has this id
 abbrev pub postulates_of : List ResolvedName → ℕ → Signature ℕ
@@ -37,7 +35,6 @@ postulates_of xs a = map (λ (x : ResolvedName). Postulate x.id a) xs
 pub record IsNew (k : Core) : Type 0 where
   pub scope : k.scope ≡ nothing_known
   pub signature : k.signature ≡ []
-  pub same : k.same ≡ []
 
 -- a part of a declaration was judged, of which o is the signature behind it
 pub record IsDeclared (old new : Core) (o : Option (Signature Term)) : Type 0 where

@@ -2,7 +2,6 @@ pub mod Accept
 pub mod Equal
 pub mod Inferred
 pub mod Judged
-pub mod Same
 pub mod Translated
 pub mod Unbuilt
 pub mod Load

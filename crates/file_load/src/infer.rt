@@ -12,9 +12,7 @@ ghost use Rattle.core_terms.specs.Signature.{Stands, signature_in};
 ghost use Rattle.file_load.specs.Accept.{applied, at_argument as at_argument_lem, level_of, sort_level as sort_level_lem, sort_of_pi as sort_of_pi_lem, type_of};
 ghost use Rattle.file_load.specs.Equal.{same_flag as same_flag_lem};
 ghost use Rattle.file_load.specs.Inferred.{Answers, IsReady, IsSpine, context_in, typed_in, unwound};
-ghost use Rattle.file_load.specs.Same.{IsOf};
 
-use crate::same::Sameness;
 use core_rules::Flag;
 use core_terms::{DefId, Entry, NoMemory, Node, Signature, TermId, TermPool, shift, subst};
 use std::alloc::Global;
@@ -68,7 +66,6 @@ fn same_flag(first: Flag, second: Flag) -> bool
 fn at_argument(
     alloc: Global,
     pool: &mut TermPool,
-    same: &mut Sameness,
     fun: TermId,
     ty: TermId,
     argument: Argument,
@@ -76,9 +73,7 @@ fn at_argument(
     requires fun { fun < length pool.old.trees }
     requires ty { ty < length pool.old.trees }
     requires argument { argument.term < length pool.old.trees }
-    requires same { IsOf same.old pool.old }
     ensures extends { Extends pool.old pool.new }
-    ensures kept { IsOf same.new pool.new }
     ensures is { IfOk result (λ o. Answers pool.new o (at_argument_lem argument.flag (tree pool.old fun) (tree pool.old ty) (tree pool.old argument.term))) }
 {
     let Node::Pi { flag, dom, cod, .. } = pool.node(fun) else {
@@ -87,7 +82,7 @@ fn at_argument(
     if !same_flag(argument.flag, flag) {
         return Ok(None);
     }
-    if !same.are_same(pool, ty, dom)? {
+    if !pool.same_class(ty, dom) {
         return Ok(None);
     }
     let result = subst(alloc, pool, cod, 0, argument.term)?;
@@ -166,18 +161,16 @@ fn level_of_term(
     alloc: Global,
     pool: &mut TermPool,
     signature: &Signature,
-    same: &mut Sameness,
     context: &mut Vec<Entry>,
     t: TermId,
 ) -> Result<Option<u32>, NoMemory>
     requires within { t < length pool.old.trees }
-    requires ready { IsReady pool.old signature.now same.old context.old.items }
+    requires ready { IsReady pool.old signature.now context.old.items }
     ensures extends { Extends pool.old pool.new }
-    ensures kept { IsOf same.new pool.new }
     ensures context { OnOk result (context.new.items ≡ context.old.items) }
     ensures is { IfOk result (λ o. o ≡ level_of (signature_in pool.old signature.now) (context_in pool.old context.old.items) (tree pool.old t)) }
 {
-    let Some(ty) = type_of_term(alloc, pool, signature, same, context, t)? else {
+    let Some(ty) = type_of_term(alloc, pool, signature, context, t)? else {
         return Ok(None);
     };
     Ok(sort_level(pool, ty))
@@ -190,18 +183,16 @@ fn level_of_domain(
     alloc: Global,
     pool: &mut TermPool,
     signature: &Signature,
-    same: &mut Sameness,
     context: &mut Vec<Entry>,
     entry: Entry,
 ) -> Result<Option<u32>, NoMemory>
     requires entry { entry.ty < length pool.old.trees }
-    requires ready { IsReady pool.old signature.now same.old context.old.items }
+    requires ready { IsReady pool.old signature.now context.old.items }
     ensures extends { Extends pool.old pool.new }
-    ensures kept { IsOf same.new pool.new }
     ensures context { IfOk result (λ o. context.new.items ≡ (if is_some o then context.old.items ++ entry ∷ [] else context.old.items)) }
     ensures is { IfOk result (λ o. o ≡ level_of (signature_in pool.old signature.now) (context_in pool.old context.old.items) (tree pool.old entry.ty)) }
 {
-    let Some(level) = level_of_term(alloc, pool, signature, same, context, entry.ty)? else {
+    let Some(level) = level_of_term(alloc, pool, signature, context, entry.ty)? else {
         return Ok(None);
     };
     context.push(entry)?;
@@ -215,21 +206,19 @@ fn type_of_functions(
     alloc: Global,
     pool: &mut TermPool,
     signature: &Signature,
-    same: &mut Sameness,
     context: &mut Vec<Entry>,
     first: Entry,
     codomain: TermId,
 ) -> Result<Option<TermId>, NoMemory>
     requires first { first.ty < length pool.old.trees }
     requires codomain { codomain < length pool.old.trees }
-    requires ready { IsReady pool.old signature.now same.old context.old.items }
+    requires ready { IsReady pool.old signature.now context.old.items }
     ensures extends { Extends pool.old pool.new }
-    ensures kept { IsOf same.new pool.new }
     ensures context { OnOk result (context.new.items ≡ context.old.items) }
     ensures is { IfOk result (λ o. Answers pool.new o (type_of (signature_in pool.old signature.now) (context_in pool.old context.old.items) (Pi first.flag first.name (tree pool.old first.ty) (tree pool.old codomain)))) }
 {
     let around = context.len();
-    let Some(mut top) = level_of_domain(alloc, pool, signature, same, context, first)? else {
+    let Some(mut top) = level_of_domain(alloc, pool, signature, context, first)? else {
         return Ok(None);
     };
     let mut rest = codomain;
@@ -245,14 +234,14 @@ fn type_of_functions(
             flag,
             ty: dom,
         };
-        let Some(level) = level_of_domain(alloc, pool, signature, same, context, entry)? else {
+        let Some(level) = level_of_domain(alloc, pool, signature, context, entry)? else {
             context.truncate(around);
             return Ok(None);
         };
         top = top.max(level);
         rest = cod;
     }
-    let Some(last) = level_of_term(alloc, pool, signature, same, context, rest)? else {
+    let Some(last) = level_of_term(alloc, pool, signature, context, rest)? else {
         context.truncate(around);
         return Ok(None);
     };
@@ -267,23 +256,21 @@ fn type_at(
     alloc: Global,
     pool: &mut TermPool,
     signature: &Signature,
-    same: &mut Sameness,
     context: &mut Vec<Entry>,
     fun: TermId,
     argument: Argument,
 ) -> Result<Option<TermId>, NoMemory>
     requires fun { fun < length pool.old.trees }
     requires argument { argument.term < length pool.old.trees }
-    requires ready { IsReady pool.old signature.now same.old context.old.items }
+    requires ready { IsReady pool.old signature.now context.old.items }
     ensures extends { Extends pool.old pool.new }
-    ensures kept { IsOf same.new pool.new }
     ensures context { OnOk result (context.new.items ≡ context.old.items) }
     ensures is { IfOk result (λ o. Answers pool.new o (applied argument.flag (Some (tree pool.old fun)) (typed_in pool.old signature.now context.old.items argument.term) (tree pool.old argument.term))) }
 {
-    let Some(ty) = type_of_term(alloc, pool, signature, same, context, argument.term)? else {
+    let Some(ty) = type_of_term(alloc, pool, signature, context, argument.term)? else {
         return Ok(None);
     };
-    at_argument(alloc, pool, same, fun, ty, argument)
+    at_argument(alloc, pool, fun, ty, argument)
 }
 
 /// The type of the application of `fun` to the argument. The first argument that is refused ends it.
@@ -292,16 +279,14 @@ fn type_of_application(
     alloc: Global,
     pool: &mut TermPool,
     signature: &Signature,
-    same: &mut Sameness,
     context: &mut Vec<Entry>,
     fun: TermId,
     argument: Argument,
 ) -> Result<Option<TermId>, NoMemory>
     requires fun { fun < length pool.old.trees }
     requires argument { argument.term < length pool.old.trees }
-    requires ready { IsReady pool.old signature.now same.old context.old.items }
+    requires ready { IsReady pool.old signature.now context.old.items }
     ensures extends { Extends pool.old pool.new }
-    ensures kept { IsOf same.new pool.new }
     ensures context { OnOk result (context.new.items ≡ context.old.items) }
     ensures is { IfOk result (λ o. Answers pool.new o (type_of (signature_in pool.old signature.now) (context_in pool.old context.old.items) (unwound pool.old (tree pool.old fun) (argument ∷ [])))) }
 {
@@ -309,11 +294,11 @@ fn type_of_application(
         head,
         mut arguments,
     } = spine_of(alloc, pool, fun, argument)?;
-    let Some(mut ty) = type_of_term(alloc, pool, signature, same, context, head)? else {
+    let Some(mut ty) = type_of_term(alloc, pool, signature, context, head)? else {
         return Ok(None);
     };
     while let Some(next) = arguments.pop() {
-        let Some(result) = type_at(alloc, pool, signature, same, context, ty, next)? else {
+        let Some(result) = type_at(alloc, pool, signature, context, ty, next)? else {
             return Ok(None);
         };
         ty = result;
@@ -329,14 +314,12 @@ pub fn type_of_term(
     alloc: Global,
     pool: &mut TermPool,
     signature: &Signature,
-    same: &mut Sameness,
     context: &mut Vec<Entry>,
     t: TermId,
 ) -> Result<Option<TermId>, NoMemory>
     requires within { t < length pool.old.trees }
-    requires ready { IsReady pool.old signature.now same.old context.old.items }
+    requires ready { IsReady pool.old signature.now context.old.items }
     ensures extends { Extends pool.old pool.new }
-    ensures kept { IsOf same.new pool.new }
     ensures context { OnOk result (context.new.items ≡ context.old.items) }
     ensures is { IfOk result (λ o. Answers pool.new o (type_of (signature_in pool.old signature.now) (context_in pool.old context.old.items) (tree pool.old t))) }
 {
@@ -354,11 +337,11 @@ pub fn type_of_term(
                 flag,
                 ty: dom,
             };
-            type_of_functions(alloc, pool, signature, same, context, first, cod)
+            type_of_functions(alloc, pool, signature, context, first, cod)
         }
         Node::App { flag, fun, arg } => {
             let argument = Argument { flag, term: arg };
-            type_of_application(alloc, pool, signature, same, context, fun, argument)
+            type_of_application(alloc, pool, signature, context, fun, argument)
         }
         Node::Def(def) => Ok(type_of_def(pool, signature, def)),
         Node::Lam { .. }
@@ -374,17 +357,14 @@ pub fn is_type(
     alloc: Global,
     pool: &mut TermPool,
     signature: &Signature,
-    same: &mut Sameness,
     t: TermId,
 ) -> Result<bool, NoMemory>
     requires within { t < length pool.old.trees }
     requires signature { Stands pool.old signature.now }
-    requires same { IsOf same.old pool.old }
     ensures extends { Extends pool.old pool.new }
-    ensures kept { IsOf same.new pool.new }
     ensures is { IfOk result (λ b. b ≡ is_some (level_of (signature_in pool.old signature.now) [] (tree pool.old t))) }
 {
     let mut context = Vec::new(alloc);
-    let level = level_of_term(alloc, pool, signature, same, &mut context, t)?;
+    let level = level_of_term(alloc, pool, signature, &mut context, t)?;
     Ok(level.is_some())
 }

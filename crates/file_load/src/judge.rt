@@ -47,13 +47,7 @@ fn declare(core: &mut Core, line: &ResolvedSignature) -> Result<bool, NoMemory>
     let Some(ty) = translate(core.alloc, &mut core.pool, &line.ty)? else {
         return Ok(false);
     };
-    if !is_type(
-        core.alloc,
-        &mut core.pool,
-        &core.signature,
-        &mut core.same,
-        ty,
-    )? {
+    if !is_type(core.alloc, &mut core.pool, &core.signature, ty)? {
         return Ok(false);
     }
     postulate(&mut core.signature, line.names.as_slice(), ty)?;

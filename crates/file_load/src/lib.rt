@@ -7,7 +7,6 @@ mod infer;
 mod judge;
 pub mod laws;
 mod loaded_file;
-mod same;
 mod stages;
 mod state;
 mod translate;

@@ -138,7 +138,6 @@ fn load_file(alloc: Global, file: &File) -> Loaded
                 scope,
                 pool,
                 signature,
-                same: _,
                 alloc,
             } = core;
             Loaded::Done(LoadedFile::new(alloc, scope, pool, signature))

@@ -1,7 +1,6 @@
 ghost use Rattle.std.specs.Prelude.{IfOk};
 ghost use Rattle.file_load.specs.Judged.{IsNew};
 
-use crate::same::Sameness;
 use core_terms::{NoMemory, Signature, TermPool};
 use scope_check::Scope;
 use std::alloc::Global;
@@ -12,7 +11,6 @@ pub struct Core {
     pub scope: Scope,
     pub pool: TermPool,
     pub signature: Signature,
-    pub same: Sameness,
     pub alloc: Global,
 }
 
@@ -28,7 +26,6 @@ impl Core {
             scope,
             pool: TermPool::new(alloc)?,
             signature: Signature::new(alloc)?,
-            same: Sameness::new(alloc),
             alloc,
         })
     }

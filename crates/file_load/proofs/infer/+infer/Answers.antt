@@ -9,7 +9,6 @@ use Rattle.core_terms.specs.Signature.{signature_in}
 use Rattle.file_load.specs.Inferred.{Answers, IsReady, context_in}
 use Rattle.file_load.specs.declared.infer.Argument.{Argument}
 use Rattle.file_load.proofs.Inferring.{head-refused, longer-push, next-refused, next-reading, on-ok, outer-push, ready-extends, ready-push, step-ready, step-refused, step-walk, walk-first, walk-last, walk-refused}
-use Rattle.file_load.proofs.Sameness.{IsOf-Extends}
 use Rattle.file_load.proofs.infer.+infer.Goals as goal
 
 pub type_of_application-returns-in_default-clause-is : goal.type_of_application-returns-in_default-clause-is
@@ -21,13 +20,13 @@ pub type_of_application-type_at-requires : goal.type_of_application-type_at-requ
 type_of_application-type_at-requires t c =
     let up_to : AllByRecursion (λ (a : Argument). a.term ≤ max c.args.fun c.args.argument.term) (c.pop.new.self.items ++ c.in-Some-pop.next ∷ []) = rw c.in-Some-pop.ensures.items at c.loop-next.invariant.bound in
     let least : c.in-Some-pop.next.term ≤ max c.args.fun c.args.argument.term = all-last (λ (a : Argument). a.term ≤ max c.args.fun c.args.argument.term) c.pop.new.self.items c.in-Some-pop.next up_to in
-    let ready : IsReady c.args.pool.now c.args.signature.now c.args.same.now c.loop-next.context.items = rw c.loop-next.invariant.context c.requires.ready in (
+    let ready : IsReady c.args.pool.now c.args.signature.now c.loop-next.context.items = rw c.loop-next.invariant.context c.requires.ready in (
       omega arith,
       (
         c.loop-next.invariant.reading.typed.within,
         (
           omega (arith, Extends-length c.loop-next.invariant.extends, c.requires.fun, c.requires.argument),
-          ready-extends c.args.pool.now c.loop-next.pool c.loop-next.invariant.extends ready c.loop-next.same c.loop-next.invariant.same,
+          ready-extends c.args.pool.now c.loop-next.pool c.loop-next.invariant.extends ready,
         ),
       ),
     )
@@ -45,7 +44,6 @@ type_of_application-loop-next-preserved t c =
     let least : c.in-Some-pop.next.term ≤ max c.args.fun c.args.argument.term = all-last (λ (a : Argument). a.term ≤ max c.args.fun c.args.argument.term) c.pop.new.self.items c.in-Some-pop.next up_to in
     record {
       extends = Extends-trans c.loop-next.invariant.extends c.in_ok-result.ensures.extends;
-      same = c.in_ok-result.ensures.kept;
       context = c.in_ok-result.ensures.context ∙ c.loop-next.invariant.context;
       bound = all-front (λ (a : Argument). a.term ≤ max c.args.fun c.args.argument.term) c.pop.new.self.items c.in-Some-pop.next up_to;
       reading = next-reading c.requires.ready c.loop-next.invariant.extends c.loop-next.invariant.context c.in-Some-pop.next c.pop.new.self.items c.loop-next.arguments.items c.loop-next.invariant.reading c.in-Some-pop.ensures.items
@@ -57,10 +55,9 @@ type_of_functions-loop-flag-init t c =
     let items : c.level_of_domain.new.context.items ≡ c.args.context.now.items ++ c.args.first ∷ [] = rw c.in-Some.is at c.in_ok-top.ensures.context in
     record {
       extends = c.in_ok-top.ensures.extends;
-      same = c.in_ok-top.ensures.kept;
       outer = outer-push c.args.context.now.items c.args.context.now.items c.level_of_domain.new.context.items c.args.first items (omega arith) (take_all _ c.args.context.now.items (omega arith));
       longer = longer-push c.args.context.now.items c.args.context.now.items c.level_of_domain.new.context.items c.args.first items (omega arith);
-      ready = rw items (ready-push c.args.pool.now c.args.signature.now c.args.same.now c.args.context.now.items c.args.first c.requires.ready c.requires.first);
+      ready = rw items (ready-push c.args.pool.now c.args.signature.now c.args.context.now.items c.args.first c.requires.ready c.requires.first);
       bound = omega arith;
       walk = rw items (walk-first c.args.pool.now c.args.signature.now c.args.context.now.items c.args.first c.args.codomain c.in-Some.top (sym c.in-Some.is ∙ c.in_ok-top.ensures.is));
     }
@@ -72,7 +69,7 @@ type_of_functions-level_of_domain-requires-in-Pi t c =
       omega arith,
       (
         omega (arith, Extends-length c.loop-flag.invariant.extends, c.requires.codomain),
-        ready-extends c.args.pool.now c.loop-flag.pool c.loop-flag.invariant.extends c.loop-flag.invariant.ready c.loop-flag.same c.loop-flag.invariant.same,
+        ready-extends c.args.pool.now c.loop-flag.pool c.loop-flag.invariant.extends c.loop-flag.invariant.ready,
       ),
     )
 
@@ -88,7 +85,6 @@ type_of_functions-loop-flag-preserved t c =
     let items : c.level_of_domain-in-Pi.new.context.items ≡ c.loop-flag.context.items ++ (record { name = c.in-Pi.name; flag = c.in-Pi.flag; ty = c.in-Pi.dom }) ∷ [] = rw c.in-Some-2.is at c.in_ok-level.ensures.context in
     record {
       extends = Extends-trans c.loop-flag.invariant.extends c.in_ok-level.ensures.extends;
-      same = c.in_ok-level.ensures.kept;
       outer = outer-push c.args.context.now.items c.loop-flag.context.items c.level_of_domain-in-Pi.new.context.items _ items c.loop-flag.invariant.longer c.loop-flag.invariant.outer;
       longer = longer-push c.args.context.now.items c.loop-flag.context.items c.level_of_domain-in-Pi.new.context.items _ items c.loop-flag.invariant.longer;
       ready = rw items
@@ -107,14 +103,13 @@ type_of_functions-level_of_term-requires t c =
       omega arith,
       (
         omega (arith, Extends-length c.loop-flag.invariant.extends, c.requires.codomain),
-        ready-extends c.args.pool.now c.loop-flag.pool c.loop-flag.invariant.extends c.loop-flag.invariant.ready c.loop-flag.same c.loop-flag.invariant.same,
+        ready-extends c.args.pool.now c.loop-flag.pool c.loop-flag.invariant.extends c.loop-flag.invariant.ready,
       ),
     )
 
 pub type_of_functions-returns-in_default-3 : goal.type_of_functions-returns-in_default-3
 type_of_functions-returns-in_default-3 t c = record {
   extends = Extends-trans c.loop-flag.invariant.extends c.in_ok-last.ensures.extends;
-  kept = c.in_ok-last.ensures.kept;
   context = c.truncate-in_default-3.ensures.items ∙ ap (take c.len-around.result) c.in_ok-last.ensures.context ∙ ap (λ (n : ℕ). take n c.loop-flag.context.items) (c.len-around.ensures ∙ c.args.context.now.ok.0) ∙ c.loop-flag.invariant.outer;
   is = walk-refused c.args.context.now.items c.args.first c.args.codomain c.loop-flag.top c.loop-flag.rest c.loop-flag.invariant.ready c.loop-flag.invariant.extends c.loop-flag.invariant.walk
       (omega (arith, c.loop-flag.invariant.bound, c.requires.codomain)) (rw c.in_default-3.is at c.in_ok-last.ensures.is);
@@ -123,7 +118,6 @@ type_of_functions-returns-in_default-3 t c = record {
 pub type_of_functions-returns : goal.type_of_functions-returns
 type_of_functions-returns t c = record {
   extends = Extends-trans (Extends-trans c.loop-flag.invariant.extends c.in_ok-last.ensures.extends) c.sort_of_pi.ensures.extends;
-  kept = IsOf-Extends c.in_ok-last.ensures.kept c.sort_of_pi.ensures.extends;
   context = on-ok c.sort_of_pi.result _ (c.truncate-2.ensures.items ∙ ap (take c.len-around.result) c.in_ok-last.ensures.context ∙ ap (λ (n : ℕ). take n c.loop-flag.context.items) (c.len-around.ensures ∙ c.args.context.now.ok.0) ∙ c.loop-flag.invariant.outer);
   is = subst (λ (w : Option Term). IfOk c.sort_of_pi.result (λ (o : Option ℕ). Answers c.sort_of_pi.new.pool o w))
       (walk-last c.args.context.now.items c.args.first c.args.codomain c.loop-flag.top c.loop-flag.rest c.loop-flag.invariant.ready c.loop-flag.invariant.extends c.loop-flag.invariant.walk c.in-Some-3.last

@@ -1,7 +1,6 @@
 use Rattle.std.proofs.Common.{◌≡◌, ◌≤◌, ◌+◌, ◌*◌, max, length, take}
 use Rattle.std.specs.List.{AllByRecursion}
 use Rattle.core_terms.specs.Pool.{Extends}
-use Rattle.file_load.specs.Same.{IsOf}
 use Rattle.file_load.specs.Inferred.{IsReady}
 use Rattle.file_load.proofs.Inferring.{IsReading, IsWalk}
 use Rattle.file_load.proofs.infer.+infer.Given as goal
@@ -18,10 +17,9 @@ decreases-type_of_functions l = 5 * max l.first.ty l.codomain + 3
 abbrev pub invariant-type_of_functions-loop-flag : goal.invariant-type_of_functions-loop-flag
 invariant-type_of_functions-loop-flag l = record {
   extends : Extends l.fn.pool l.pool;
-  same : IsOf l.same l.pool;
   outer : take (length l.fn.context.items) l.context.items ≡ l.fn.context.items;
   longer : length l.fn.context.items ≤ length l.context.items;
-  ready : IsReady l.fn.pool l.fn.signature l.fn.same l.context.items;
+  ready : IsReady l.fn.pool l.fn.signature l.context.items;
   bound : l.rest ≤ l.fn.codomain;
   walk : IsWalk l.fn.pool l.fn.signature l.fn.context.items l.fn.first l.fn.codomain l.context.items l.top l.rest;
 }
@@ -41,7 +39,6 @@ decreases-type_of_term l = 5 * l.t
 abbrev pub invariant-type_of_application-loop-next : goal.invariant-type_of_application-loop-next
 invariant-type_of_application-loop-next l = record {
   extends : Extends l.fn.pool l.pool;
-  same : IsOf l.same l.pool;
   context : l.context.items ≡ l.fn.context.items;
   bound : AllByRecursion (λ a. a.term ≤ max l.fn.fun l.fn.argument.term) l.arguments.items;
   reading : IsReading l.fn.pool l.fn.signature l.fn.context.items l.fn.fun l.fn.argument l.pool l.ty l.arguments.items;

@@ -23,6 +23,6 @@ pub returns : goal.returns
 returns c =
     let old = c.args.core.now in
     let stands : StandsForSome c.translate.new.pool c.in-Some.ty (term_of c.args.line.now.ty) = rw c.in-Some.is at c.in_ok-ty.ensures.is in
-    accepts old (record { scope = old.scope; pool = c.is_type.new.pool; signature = c.postulate.new.signature; same = c.is_type.new.same; alloc = old.alloc })
-    c.args.line.now c.translate.new.pool c.in-Some.ty c.requires c.in_ok-ty.ensures.extends c.in_ok-is_type.ensures.extends stands.within stands.is c.in_ok-is_type.ensures.kept
+    accepts old (record { scope = old.scope; pool = c.is_type.new.pool; signature = c.postulate.new.signature; alloc = old.alloc })
+    c.args.line.now c.translate.new.pool c.in-Some.ty c.requires c.in_ok-ty.ensures.extends c.in_ok-is_type.ensures.extends stands.within stands.is
     (sym c.in_ok-is_type.ensures.is ∙ c.if-not-branch.false) (first_of (search rules, grind (arith, common_steps))) refl

@@ -16,7 +16,7 @@ returns-in-Err-Bad c = λ ds.
 pub returns-then-branch : goal.returns-then-branch
 returns-then-branch c =
     let old = c.args.core.now in
-    let mid : Core = record { scope = c.resolve.new.scope; pool = old.pool; signature = old.signature; same = old.same; alloc = old.alloc } in
+    let mid : Core = record { scope = c.resolve.new.scope; pool = old.pool; signature = old.signature; alloc = old.alloc } in
     let is : Resolves old.scope c.args.decl.now (Ok (c.in-Ok.resolved, c.resolve.new.scope)) = c.in-Ok.ensures.resolves in
     let j : IsDeclared mid c.judge.new.core (with_decl (declared old) c.in-Ok.resolved) = rw c.if-branch.true at c.in_ok-judge.ensures in
     record {
