@@ -3,3 +3,4 @@ pub mod Changed
 pub mod Pointwise
 pub mod Shifted
 pub mod Names
+pub mod Replaced

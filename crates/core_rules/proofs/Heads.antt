@@ -10,6 +10,9 @@ pub mod ReplacedBack
 pub mod ReplacedVerdict
 pub mod FullSolutions
 pub mod Same
+pub mod InFull
+pub mod Again
+pub mod NoSolutions
 pub mod Untouched
 pub mod Gather
 pub mod Fit

@@ -7,3 +7,5 @@ pub mod Signature
 pub mod Derivations
 pub mod Heads
 pub mod Trees
+pub mod Scope
+pub mod Names

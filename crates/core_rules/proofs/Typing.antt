@@ -5,3 +5,5 @@ pub mod Changed
 pub mod Weakened
 pub mod Substituted
 pub mod Inverted
+pub mod Fitting
+pub mod NoMeta

@@ -1,14 +1,14 @@
 -- What the laws of bounded head forms and bounded conversion speak of, and their statements.
-use Rattle.std.specs.Prelude.{◌≡◌, ◌≢◌, ◌↔◌, ℕ, ◌+◌, ◌≤◌, slice_get, true, cond, List, [], ◌∷◌, length, map, Option, Some, None, suc}
+use Rattle.std.specs.Prelude.{◌≡◌, ◌≢◌, ◌↔◌, ℕ, ◌+◌, ◌<◌, ◌≤◌, slice_get, true, cond, List, [], ◌∷◌, length, map, Option, Some, None, suc}
 use Rattle.std.specs.List.{AllByRecursion}
-use Rattle.core_rules.specs.Term.{Term, Terms, Var, Sort, Pi, Lam, App, Def, Fam, Con, Proj, Meta, IsSameTerm, HasNoMeta}
-use Rattle.core_rules.specs.Substitution.{subst, under, value_at, put_solution, replace}
+use Rattle.core_rules.specs.Term.{Term, Terms, Var, Sort, Pi, Lam, App, Def, Fam, Con, Proj, Meta, IsSameTerm, AllMetas, HasNoMeta}
+use Rattle.core_rules.specs.Substitution.{subst, under, value_at, put_solution, replace, instantiate}
 use Rattle.core_rules.specs.Signature.{Branch, Tree, Leaf, Intro, Cosplit, Split, RecordSplit, Absurd, CoBranches, NoField, OnField, ConBranches, NoCon, Refuted, Goes, co_branch, Signature, tree_of, FamDecl, Decl, fam_decl}
 use Rattle.core_rules.specs.Mapped.{signature_map, AllDecl}
 use Rattle.core_rules.specs.Elimination.{Elim, Arg, Field, elims, projections}
 use Rattle.core_rules.specs.Run.{spread, kept}
 use Rattle.core_rules.specs.Conversion.{Conv}
-use Rattle.core_rules.specs.InScope.{IsAcyclic, SignatureInScope, any_meta}
+use Rattle.core_rules.specs.InScope.{IsAcyclic, FamiliesHaveShape, SignatureInScope, any_meta}
 use Rattle.core_rules.specs.Heads.{Solutions, Answer, Form, Blocked, Taken, taken, Choice, Enters, Stays, Waits, choice, Heads, Follows, After, Bounded, Within, Out, HeadOf}
 use Rattle.core_rules.specs.Steps.{Makes}
 use Rattle.core_rules.specs.Bounded.{Verdict, Yes, No, OutOfFuel, OutOfDepth, WaitsFor, same_flag, full, AreSame, ConvOf}
@@ -242,3 +242,28 @@ MoreDepth = (g : Signature Term) (s : Solutions) (fuel depth deeper : ℕ) (t u 
 abbrev pub YesConverts : Type 0
 YesConverts = (g : Signature Term) (s f : Solutions) (fuel depth : ℕ) (t u : Term) → IsFull s f → SignatureInScope g any_meta → HasRegularTrees g → ConvOf g s fuel depth t u Yes
     → Conv (signature_map (replace f) g) (replace f t) (replace f u)
+
+-- acyclic solutions have one set of full ones
+abbrev pub OneFull : Type 0
+OneFull = (s f h : Solutions) (m : ℕ) → IsAcyclic s → IsFull s f → IsFull s h → f m ≡ h m
+
+-- deeper than each rank
+abbrev pub InstantiatedByRank : Type 0
+InstantiatedByRank = (s f : Solutions) (deep : ℕ) (t : Term) (a : IsAcyclic s) → IsFull s f → AllMetas (λ m. a.rank m < deep) t → instantiate deep s t ≡ replace f t
+
+-- as deep as there are solved metavariables
+abbrev pub InstantiatedByNumber : Type 0
+InstantiatedByNumber = (s f : Solutions) (ms : List ℕ) (t : Term) → IsAcyclic s → IsFull s f → ((m : ℕ) (u : Term) → s m ≡ Some u → (i : ℕ) × (slice_get ms i ≡ Some m)) → instantiate (length ms) s t ≡ replace f t
+
+abbrev pub NoSolvedLeft : Type 0
+NoSolvedLeft = (s f : Solutions) (t : Term) → IsAcyclic s → IsFull s f → AllMetas (λ m. s m ≡ None) (replace f t)
+
+abbrev pub NothingToReplaceInSignature : Type 0
+NothingToReplaceInSignature = (g : Signature Term) → signature_map (replace no_solutions) g ≡ g
+
+abbrev pub HeadFormAgain : Type 0
+HeadFormAgain = (g : Signature Term) (s : Solutions) (t : Term) (es : List Elim) (w : Answer) (n : ℕ) → Heads g s t es w n → (m : ℕ) × Heads g s (shown w) [] w m × (m ≤ n)
+
+-- any solutions f, put in once
+abbrev pub ReplacedConversion : Type 0
+ReplacedConversion = (g : Signature Term) (f : Solutions) (t u : Term) → FamiliesHaveShape g → Conv g t u → Conv (signature_map (replace f) g) (replace f t) (replace f u)

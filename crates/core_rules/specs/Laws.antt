@@ -1,15 +1,17 @@
 -- The statements of the laws of substitution, conversion and typing.
 use Rattle.std.specs.Prelude.{◌≡◌, ℕ, ◌+◌, ◌≤◌, List, [], ◌∷◌, ◌++◌, length, map, take, drop}
+use Rattle.std.specs.List.{AllByRecursion}
 use Rattle.core_rules.specs.declared.Flag.{Flag}
 use Rattle.core_rules.specs.Term.{Term, Terms, Var, Sort, Pi, Lam, App, Def, Fam, Con, Proj, Meta, IsSameTerm, HasNoMeta}
 use Rattle.core_rules.specs.Substitution.{over, shift, shift_var, subst, under, env_var, value_at}
-use Rattle.core_rules.specs.Signature.{Entry, Context, CoreClause, Tree, Decl, Open, Function, Signature}
-use Rattle.core_rules.specs.Mapped.{AllDecl}
+use Rattle.core_rules.specs.Signature.{Entry, Context, CoreClause, Tree, Decl, Postulate, Family, Open, Function, Signature}
+use Rattle.core_rules.specs.Mapped.{AllClause, AllDecl}
 use Rattle.core_rules.specs.Elimination.{Elim, elims, elims_over}
 use Rattle.core_rules.specs.Run.{Run}
 use Rattle.core_rules.specs.Conversion.{Conv}
-use Rattle.core_rules.specs.Typing.{Typing, Fits, entry}
+use Rattle.core_rules.specs.Typing.{Typing, Fits, WellFormed, entry}
 use Rattle.core_rules.specs.InScope.{InScope, FamiliesHaveShape, SignatureInScope, any_meta}
+use Rattle.core_rules.specs.TypedTree.{vars}
 use Rattle.core_rules.specs.Derivable.{Good, Derivable}
 use Rattle.core_rules.specs.Inversion.{OfVariable, OfPi, OfLam, OfApp, OfDef, OfFam, OfCon, OfProj}
 
@@ -171,3 +173,41 @@ DerivableExtended = (g : Signature Term) (d : Decl Term) → Derivable g → Goo
 
 abbrev pub DerivableTaken : Type 0
 DerivableTaken = (g : Signature Term) (n : ℕ) → Derivable g → Derivable (take n g)
+
+-- Fitting environments
+
+abbrev pub FitsIdentity : Type 0
+FitsIdentity = (g : Signature Term) (c : Context Term) → SignatureInScope g any_meta → WellFormed g c → Fits g c (vars 0 (length c)) c
+
+abbrev pub FitsWeakened : Type 0
+FitsWeakened = (g : Signature Term) → SignatureInScope g any_meta → (inner new c es : Context Term) (r : List Term) → Fits g (inner ++ c) r es
+    → Fits g (inserted inner new c) (map (λ t. shift t (length inner) (length new)) r) es
+
+abbrev pub FitsComposed : Type 0
+FitsComposed = (g : Signature Term) → SignatureInScope g any_meta → (c d es : Context Term) (r s : List Term) → Fits g c r d → Fits g d s es → Fits g c (map (under r) s) es
+
+-- the types of two contexts are convertible, entry by entry; their names and flags may differ
+pub data ConvContext (g : Signature Term) : Context Term → Context Term → Type 0 where
+  empty : ConvContext g [] []
+  extended : {c d : Context Term} {e h : Entry Term} → ConvContext g c d → Conv g e.ty h.ty → ConvContext g (e ∷ c) (h ∷ d)
+
+abbrev pub TypingOfConvertibleContext : Type 0
+TypingOfConvertibleContext = (g : Signature Term) (c d : Context Term) (t a : Term) → ConvContext g c d → Typing g c t a → Typing g d t a
+
+abbrev pub FitsOfConvertibleContext : Type 0
+FitsOfConvertibleContext = (g : Signature Term) (c d es : Context Term) (r : List Term) → ConvContext g c d → Fits g c r es → Fits g d r es
+
+-- Metavariables
+
+abbrev pub TypedHasNoMeta : Type 0
+TypedHasNoMeta = (g : Signature Term) (c : Context Term) (t a : Term) → Typing g c t a → HasNoMeta t
+
+-- what stands in the clauses of a function has no metavariable
+abbrev pub ClausesHaveNoMeta : Decl Term → Type 0
+ClausesHaveNoMeta (Postulate x a) = Unit {0}
+ClausesHaveNoMeta (Family d) = Unit {0}
+ClausesHaveNoMeta (Open x a) = Unit {0}
+ClausesHaveNoMeta (Function x a qs T) = AllByRecursion (AllClause HasNoMeta) qs
+
+abbrev pub GoodHasNoMeta : Type 0
+GoodHasNoMeta = (g : Signature Term) (d : Decl Term) → Good g d → ClausesHaveNoMeta d → AllDecl HasNoMeta d

@@ -22,3 +22,5 @@ pub mod BoundedLaws
 pub mod Addition
 pub mod TreeLaws
 pub mod VectorHead
+pub mod ScopeLaws
+pub mod NameLaws

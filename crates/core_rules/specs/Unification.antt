@@ -2,7 +2,7 @@
 use Rattle.std.specs.Prelude.{◌≡◌, ◌≢◌, ℕ, ◌+◌, true, false, cond, eqb, List, [], ◌∷◌, ◌++◌, length, map, slice_get, Option, Some, None}
 use Rattle.std.specs.List.{AllByRecursion}
 use Rattle.core_rules.specs.declared.Flag.{Flag}
-use Rattle.core_rules.specs.Term.{Term, Var, Sort, Pi, Lam, App, Def, Fam, Con, Proj, Meta, occurs}
+use Rattle.core_rules.specs.Term.{Term, Var, Sort, Pi, Lam, App, Def, Fam, Con, Proj, Meta, occurs, IsSameTerm}
 use Rattle.core_rules.specs.Substitution.{over, shift, value_at, under}
 use Rattle.core_rules.specs.Signature.{Context, Signature}
 use Rattle.core_rules.specs.Elimination.{Elim, Arg}
@@ -125,7 +125,7 @@ pub record Refutes (g : Signature Term) (c : Context Term) (es : List Equation) 
 pub record Joins (c : Context Term) (ss : List Solution) (c' : Context Term) (r : List Term) (keep : List ℕ) : Type 0 where
   pub long : length r ≡ length c
   pub scoped : AllByRecursion (λ t. VarsBelow (length c') t) r
-  pub values : AllByRecursion (λ s. value_at r s.var ≡ under r s.value) ss
+  pub values : AllByRecursion (λ s. IsSameTerm (value_at r s.var) (under r s.value)) ss
   pub as_many : length keep ≡ length c'
   pub kept : (j k : ℕ) → slice_get keep j ≡ Some k → slice_get r k ≡ Some (Var j)
 

@@ -1,7 +1,7 @@
 //! Laws of bounded head forms and bounded conversion. Each is the contract of a function that does nothing.
 //! The statements stand in `specs/BoundedLaws.antt`, under the same names.
 
-ghost use Rattle.core_rules.specs.BoundedLaws.{OneHeadForm, OneBoundedHeadForm, MoreFuel, NextOfTerm, NextOfTree, NextOfChoice, StepsAreNeeded, OutMakesMore, BoundedHeadFormStands, BlockedByUnsolved, FullSolutions, ReplacedHeadForm, ReplacedHeadFormBack, ReplacedBoundedHeadForm, ReplacedVerdict, NothingToReplace, ReplacedSignature, HeadFormConverts, SameByFullSolutions, OneVerdict, VerdictStands, MoreFuelForVerdict, MoreDepth, YesConverts};
+ghost use Rattle.core_rules.specs.BoundedLaws.{OneHeadForm, OneBoundedHeadForm, MoreFuel, NextOfTerm, NextOfTree, NextOfChoice, StepsAreNeeded, OutMakesMore, BoundedHeadFormStands, BlockedByUnsolved, FullSolutions, ReplacedHeadForm, ReplacedHeadFormBack, ReplacedBoundedHeadForm, ReplacedVerdict, NothingToReplace, ReplacedSignature, HeadFormConverts, SameByFullSolutions, OneVerdict, VerdictStands, MoreFuelForVerdict, MoreDepth, YesConverts, OneFull, InstantiatedByRank, InstantiatedByNumber, NoSolvedLeft, NothingToReplaceInSignature, HeadFormAgain, ReplacedConversion};
 
 /// A term under eliminations comes to one answer, in one number of steps.
 pub fn one_head_form()
@@ -126,4 +126,39 @@ pub fn more_depth()
 /// replaced.
 pub fn yes_converts()
     ensures { YesConverts }
+{}
+
+/// Acyclic solutions can be had in full in one way.
+pub fn one_full()
+    ensures { OneFull }
+{}
+
+/// A term with solutions put in deeper than the rank of each of its metavariables is the term with full solutions replaced.
+pub fn instantiated_by_rank()
+    ensures { InstantiatedByRank }
+{}
+
+/// So is one with solutions put in as deep as there are solved metavariables.
+pub fn instantiated_by_number()
+    ensures { InstantiatedByNumber }
+{}
+
+/// Where full solutions are replaced no solved metavariable is left.
+pub fn no_solved_left()
+    ensures { NoSolvedLeft }
+{}
+
+/// Without solutions each signature stays as it is.
+pub fn nothing_to_replace_in_signature()
+    ensures { NothingToReplaceInSignature }
+{}
+
+/// A head form comes to itself, in no more steps.
+pub fn head_form_again()
+    ensures { HeadFormAgain }
+{}
+
+/// Conversion is kept where metavariables are replaced, in the terms and in the signature.
+pub fn replaced_conversion()
+    ensures { ReplacedConversion }
 {}

@@ -1,7 +1,7 @@
 //! Laws of the definitions. Each is the contract of a function that does nothing, on which a crate above, or a reader, can rest.
 //! The statements stand in `specs/Laws.antt`, under the same names.
 
-ghost use Rattle.core_rules.specs.Laws.{TraversalIdentity, TraversalComposition, TraversalExchange, ShiftAfterShift, ShiftsExchange, SubstitutionInShifted, ShiftOfSubstitution, OuterShiftOfSubstitution, SubstitutionAfterSubstitution, ShiftOfEnvironment, SubstitutionOfEnvironment, EnvironmentOfEnvironment, EnvironmentInShifted, EnvironmentInSubstituted, ChangeOfShifted, ChangeOfSubstituted, ChangeOfEnvironment, OneRun, SameTermsConvert, ConversionUnderEliminations, ConversionOfShifted, ConversionOfSubstituted, ConversionOfEnvironments, Weakening, TypingOfSubstituted, TypingOfEnvironment, ShapeInScope, RunOfShifted, RunOfSubstituted, TypedInScope, DerivableInScope, InversionOfVariable, InversionOfSort, InversionOfPi, InversionOfLambda, InversionOfApplication, InversionOfDefinition, InversionOfFamily, InversionOfConstructor, InversionOfProjection, NoTypeOfMetavariable, ConversionGrows, TypingGrows, ConversionOfClosed, TypingOfClosed, DerivableExtended, DerivableTaken};
+ghost use Rattle.core_rules.specs.Laws.{TraversalIdentity, TraversalComposition, TraversalExchange, ShiftAfterShift, ShiftsExchange, SubstitutionInShifted, ShiftOfSubstitution, OuterShiftOfSubstitution, SubstitutionAfterSubstitution, ShiftOfEnvironment, SubstitutionOfEnvironment, EnvironmentOfEnvironment, EnvironmentInShifted, EnvironmentInSubstituted, ChangeOfShifted, ChangeOfSubstituted, ChangeOfEnvironment, OneRun, SameTermsConvert, ConversionUnderEliminations, ConversionOfShifted, ConversionOfSubstituted, ConversionOfEnvironments, Weakening, TypingOfSubstituted, TypingOfEnvironment, ShapeInScope, RunOfShifted, RunOfSubstituted, TypedInScope, DerivableInScope, InversionOfVariable, InversionOfSort, InversionOfPi, InversionOfLambda, InversionOfApplication, InversionOfDefinition, InversionOfFamily, InversionOfConstructor, InversionOfProjection, NoTypeOfMetavariable, ConversionGrows, TypingGrows, ConversionOfClosed, TypingOfClosed, DerivableExtended, DerivableTaken, FitsIdentity, FitsWeakened, FitsComposed, TypingOfConvertibleContext, FitsOfConvertibleContext, TypedHasNoMeta, GoodHasNoMeta};
 
 /// A change that leaves each variable as it is leaves each term as it is.
 pub fn traversal_identity()
@@ -236,4 +236,39 @@ pub fn derivable_extended()
 /// The first declarations of a derivable signature are one.
 pub fn derivable_taken()
     ensures { DerivableTaken }
+{}
+
+/// The variables of a well formed context, as an environment, fit it.
+pub fn fits_identity()
+    ensures { FitsIdentity }
+{}
+
+/// A fitting environment, shifted, fits where entries are put into the context.
+pub fn fits_weakened()
+    ensures { FitsWeakened }
+{}
+
+/// A fitting environment under another one fits.
+pub fn fits_composed()
+    ensures { FitsComposed }
+{}
+
+/// Typing is kept where the types of the context become convertible ones.
+pub fn typing_of_convertible_context()
+    ensures { TypingOfConvertibleContext }
+{}
+
+/// Fitting is kept where the types of the context become convertible ones.
+pub fn fits_of_convertible_context()
+    ensures { FitsOfConvertibleContext }
+{}
+
+/// No metavariable stands in a typed term.
+pub fn typed_has_no_meta()
+    ensures { TypedHasNoMeta }
+{}
+
+/// No metavariable stands in a good declaration, but in its clauses, of which being good asks nothing.
+pub fn good_has_no_meta()
+    ensures { GoodHasNoMeta }
 {}

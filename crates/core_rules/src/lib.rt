@@ -6,6 +6,8 @@ pub mod bounded_examples;
 pub mod bounded_laws;
 pub mod examples;
 pub mod laws;
+pub mod name_laws;
+pub mod scope_laws;
 pub mod tree_laws;
 
 /// How an argument is given: written out, or left to be found.

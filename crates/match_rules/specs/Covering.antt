@@ -4,7 +4,7 @@ use Rattle.core_rules.specs.declared.Flag.{Flag}
 use Rattle.core_rules.specs.Term.{Term, Terms, Var, Con}
 use Rattle.core_rules.specs.Substitution.{shift, under}
 use Rattle.core_rules.specs.Signature.{Branch, Tree, Leaf, Intro, Cosplit, Split, RecordSplit, Absurd, CoBranches, ConBranches, co_branch, con_branch, ConDecl, Signature, con_decl}
-use Rattle.core_rules.specs.Elimination.{Elim, Arg, Field, elims, args}
+use Rattle.core_rules.specs.Elimination.{Elim, Arg, Field, elims, args, projections}
 use Rattle.core_rules.specs.Conversion.{IsEtaCon}
 use Rattle.core_rules.specs.TypedTree.{into, new_con}
 use Rattle.match_rules.specs.Matching.{Shape, Any, OfCon, OfRecord, Nothing, OfField, Shapes, NoShape, AndShape, eta_family, Clause, Bound, binds, values_from, HasHead, as_args}
@@ -53,6 +53,7 @@ mutual
     at_var : {k i : ℕ} {ps : Shapes} → Looks g (OfCon k ps) (Var i) (At i)
     of_record : {d : ℕ} {ps : Shapes} {t : Term} {us : List Term} {w : Verdict} → IsItself g d t us → LooksAll g ps (as_args us) w → Looks g (OfRecord d ps) t (whole w)
     at_record : {d i : ℕ} {ps : Shapes} → Looks g (OfRecord d ps) (Var i) (RecordAt i)
+    of_projections : {d : ℕ} {ps : Shapes} {t : Term} {w : Verdict} → LooksAll g ps (as_args (projections g d t)) w → Looks g (OfRecord d ps) t (whole w)
     unknown : {p : Shape} {t : Term} → Looks g p t Stop
 
   pub data LooksAll (g : Signature Term) : Shapes → List Elim → Verdict → Type 0 where

@@ -92,7 +92,7 @@ module _ (s : Solutions) (a : IsAcyclic s) where
   to_rank n k None e h = refl
   to_rank n k (Some u) e h = ap Some (agree n (a.rank k) (a.rank k) (omega arith) (omega arith) u (a.falls k u e))
 
-  in_full : (n : ℕ) (t : Term) → AllMetas (λ k. a.rank k < n) t → instantiate n s t ≡ replace (full s a) t
+  pub in_full : (n : ℕ) (t : Term) → AllMetas (λ k. a.rank k < n) t → instantiate n s t ≡ replace (full s a) t
   unfolding instantiate
   in_full zero t p = sym (replace_none (full s a) t (none_below t p))
   in_full (suc n) t p =

@@ -55,14 +55,14 @@ module _ (f : Solutions) (g : Signature Term) where
     branches_image n (Goes k b T bs) p =
         (record { within = λ m h. p.0.within m (sym (takes-image f g k m) ∙ h); once = p.0.once }, regular_image (length b.keep) T p.1, branches_image n bs p.2)
 
-  trees_image : HasFitTrees g → HasFitTrees (image f g)
+  pub trees_image : HasFitTrees g → HasFitTrees (image f g)
   trees_image x i T e = by_tree (tree_of g i) refl (sym (tree_of-map (replace f) g i) ∙ e)
     where
       by_tree : (o : Option (Tree Term)) → tree_of g i ≡ o → option_map (tree_map (replace f)) o ≡ Some T → IsFit (image f g) 0 T
       by_tree None h k = absurd cc
       by_tree (Some S) h k = transport (IsFit (image f g) 0) (one_some k) (regular_image 0 S (x i S h))
 
-  shown_image : (w : Answer) → shown (replace_answer f w) ≡ replace f (shown w)
+  pub shown_image : (w : Answer) → shown (replace_answer f w) ≡ replace f (shown w)
   shown_image (Form h es) = sym (replace-elims f h es)
   shown_image (Blocked m h es) = sym (replace-elims f h es)
 

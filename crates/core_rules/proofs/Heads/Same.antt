@@ -35,7 +35,7 @@ term_or t u = by_code (code_or (coded_term.code t) (coded_term.code u))
     by_code (inr n) = inr (λ e. n (ap coded_term.code e))
 
 module _ (s : Solutions) (a : IsAcyclic s) (f h : Solutions) (x : IsFull s f) (y : IsFull s h) where
-  full_one_below : (n m : ℕ) → a.rank m < n → f m ≡ h m
+  pub full_one_below : (n m : ℕ) → a.rank m < n → f m ≡ h m
   full_one_below zero m l = absurd (omega arith)
   full_one_below (suc n) m l = by_solution (λ k j. full_one_below n k (omega (arith, j, l))) (s m) refl
     where
@@ -45,7 +45,7 @@ module _ (s : Solutions) (a : IsAcyclic s) (f h : Solutions) (x : IsFull s f) (y
           x.solved m t e ∙ (ap Some (replace_alike f h t (weaker (λ k. a.rank k < a.rank m) (λ k. f k ≡ h k) r t (a.falls m t e))) ∙ sym (y.solved m t e))
 
   -- acyclic solutions have one set of full solutions
-  full_one : (t : Term) → replace f t ≡ replace h t
+  pub full_one : (t : Term) → replace f t ≡ replace h t
   full_one t = λ i. replace (λ m. full_one_below (suc (a.rank m)) m (omega arith) i) t
 
 module _ (s : Solutions) (f : Solutions) (x : IsFull s f) (t u : Term) where

@@ -98,7 +98,7 @@ module _ {A : Type 0} (f : A → A) (P : A → Type 0) (h : (t : A) → P t → 
   decl_stays (Function x a qs T) p =
       ap₂ (λ a qs. Function x a qs (tree_map f T)) (h a p.0) (map_stays (clause_map f) (AllClause P) clause_stays qs p.1) ∙ ap (Function x a qs) (tree_stays T p.2)
 
-  signature_stays : (g : Signature A) → ((i : ℕ) (d : Decl A) → slice_get g i ≡ Some d → AllDecl P d) → signature_map f g ≡ g
+  pub signature_stays : (g : Signature A) → ((i : ℕ) (d : Decl A) → slice_get g i ≡ Some d → AllDecl P d) → signature_map f g ≡ g
   signature_stays [] p = refl
   signature_stays (d ∷ g) p = ap₂ (λ d g. d ∷ g) (decl_stays d (p 0 d refl)) (signature_stays g (λ i d e. p (suc i) d e))
 

@@ -33,7 +33,7 @@ append_one_more : {X : Type 0} (xs ys zs : List X) → xs ++ (ys ++ zs) ≡ xs +
 append_one_more [] ys zs = refl
 append_one_more (x ∷ xs) ys zs = ap (λ l. x ∷ l) (append_one_more xs ys zs)
 
-places-append : (b : ℕ) (ns ms : List ℕ) → places b (ns ++ ms) ≡ places b ns ++ places (b + length ns) ms
+pub places-append : (b : ℕ) (ns ms : List ℕ) → places b (ns ++ ms) ≡ places b ns ++ places (b + length ns) ms
 places-append b [] ms = rw add-zero refl
 places-append b (n ∷ ns) ms =
     let p : b + 1 + length ns ≡ b + suc (length ns) = omega arith in

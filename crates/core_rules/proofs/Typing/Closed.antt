@@ -52,7 +52,7 @@ some_type : {a b : Term} → Some a ≡ Some b → a ≡ b
 some_type e = cc e
 
 module _ (M : ℕ → ℕ → Type 0) where
-  scoped_type : (h : Signature Term) (d : Decl Term) (a : Term) → decl_type d ≡ Some a → DeclInScope h M d → InScope h M 0 a
+  pub scoped_type : (h : Signature Term) (d : Decl Term) (a : Term) → decl_type d ≡ Some a → DeclInScope h M d → InScope h M 0 a
   scoped_type h (Postulate x b) a e s = subst (InScope h M 0) (some_type e) s
   scoped_type h (Family d) a e s = absurd cc
   scoped_type h (Open x b) a e s = subst (InScope h M 0) (some_type e) s

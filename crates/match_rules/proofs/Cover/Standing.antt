@@ -1,10 +1,10 @@
 -- What matching on the tree's left side says of the eliminations that stand for it.
-use Rattle.std.specs.Prelude.{◌≡◌, ℕ, List, [], ◌∷◌, ◌++◌, Option, Some, None, refl}
+use Rattle.std.specs.Prelude.{◌≡◌, ℕ, List, [], ◌∷◌, ◌++◌, map, Option, Some, None, refl}
 use Rattle.std.proofs.Common.{ap₂, sym, subst, append-nil}
 use Rattle.core_rules.specs.declared.Flag.{Flag}
-use Rattle.core_rules.specs.Term.{Term, Terms, Var, Con}
+use Rattle.core_rules.specs.Term.{Term, Terms, Var, Con, Proj}
 use Rattle.core_rules.specs.Substitution.{value_at}
-use Rattle.core_rules.specs.Signature.{Signature, Tree, tree_of}
+use Rattle.core_rules.specs.Signature.{Signature, Tree, tree_of, fields_of}
 use Rattle.core_rules.specs.Elimination.{Elim, Arg, Field, projections}
 use Rattle.core_rules.specs.Heads.{Form}
 use Rattle.core_rules.specs.InScope.{FamiliesHaveShape}
@@ -52,6 +52,10 @@ module _ (g : Signature Term) where
   stands_args : {r us vs : List Term} → LikeEach g r 0 us vs → Stands r (as_args us) (as_args vs)
   stands_args L.nil = none
   stands_args (L.one e es) = arg e (stands_args es)
+
+  like_projections : {r : List Term} {t v : Term} (fs : List ℕ) → Like g r 0 t v → LikeEach g r 0 (map (λ f. Proj f t) fs) (map (λ f. Proj f v) fs)
+  like_projections [] e = L.nil
+  like_projections (f ∷ fs) e = L.one (L.proj e) (like_projections fs e)
 
   stands_binds : {r : List Term} {v : Term} (t : Term) (o : Option ℕ) → Like g r 0 t v → StandsFor r (binds o t) (binds o v)
   stands_binds t None e = none
@@ -189,6 +193,8 @@ module _ (g : Signature Term) where
       looks_means {r} {v = v} (V.of_record {d = d} {t = t} {us = us} {w = w} i k) e =
           whole_means w (λ σ f. M.of_record f) (λ a. M.in_record a) (λ d. inner_record d)
           (looks_all_means k (stands_args (record_parts g shapes r i.con d i.params i.is_con us i.as_many {t = t} {v = v} [] [] e L.ends i.is)))
+      looks_means {v = v} (V.of_projections {d = d} {t = t} {w = w} k) e =
+          whole_means w (λ σ f. M.of_record f) (λ a. M.in_record a) (λ d. inner_record d) (looks_all_means k (stands_args (like_projections (fields_of g d) e)))
       looks_means V.at_record e = record_at
       looks_means V.unknown e = stop
 
