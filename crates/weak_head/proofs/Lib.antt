@@ -1,0 +1,4 @@
+mod Leads
+mod Lighter
+mod Ranks
+mod Hops
