@@ -10,3 +10,4 @@ pub mod Plain
 pub mod Once
 pub mod Kept
 pub mod ArgLists
+pub mod Instances

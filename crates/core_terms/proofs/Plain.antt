@@ -1,5 +1,5 @@
 -- A node without names over parts without names, and a node as the pool grows.
-use Rattle.std.specs.Prelude.{◌≡◌, ℕ, ◌<◌, length, refl}
+use Rattle.std.specs.Prelude.{◌≡◌, ℕ, ◌<◌, ◌≤◌, length, refl}
 use Rattle.std.proofs.Common.{sym, ap, ◌∙◌, arith, subst}
 use Rattle.core_rules.specs.Term.{Term, nameless, nameless_all}
 use Rattle.core_terms.specs.declared.node.Node.{Node}
@@ -64,3 +64,16 @@ module _ (p q : Pool) (g : Extends p q) where
 
   pub node_tree-grows : (n : Node) → Below (tree p) (length p.trees) n → node_tree (tree p) n ≡ node_tree (tree q) n
   node_tree-grows n h = node_tree-same (tree p) (tree q) (length p.trees) (λ i l. sym (Extends-tree i g l)) n h
+
+module _ (f : ℕ → Term) (m n : ℕ) (l : m ≤ n) where
+  pub Below-higher : (x : Node) → Below f m x → Below f n x
+  Below-higher (N.Pi b x s t) h = (omega arith, omega arith)
+  Below-higher (N.Lam b x s t) h = (omega arith, omega arith)
+  Below-higher (N.App b s t) h = (omega arith, omega arith)
+  Below-higher (N.Con k a) h = record { within = omega (arith, h.within); list = h.list }
+  Below-higher (N.Proj k t) h = omega arith
+  Below-higher (N.Meta k a) h = record { within = omega (arith, h.within); list = h.list }
+  Below-higher (N.Var i) h = tt
+  Below-higher (N.Sort i) h = tt
+  Below-higher (N.Def i) h = tt
+  Below-higher (N.Fam i) h = tt

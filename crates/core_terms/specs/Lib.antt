@@ -9,3 +9,5 @@ pub mod Table
 pub mod Change
 pub mod Placed
 pub mod Shifted
+pub mod Count
+pub mod Solutions

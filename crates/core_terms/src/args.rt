@@ -5,10 +5,10 @@ ghost use Rattle.core_terms.specs.Pool.{Extends, IsArgs, IsFirst, StandsFor};
 ghost use Rattle.core_terms.specs.Pool.{args, list_of, tree};
 
 use crate::ids::TermId;
-use crate::no_memory::NoMemory;
+use crate::NoMemory;
 use crate::node::{Args, Node};
 use crate::pool::TermPool;
-use crate::row::Row;
+use crate::Row;
 use core_rules::Flag;
 
 impl TermPool {

@@ -4,7 +4,7 @@ ghost use Rattle.core_terms.specs.Pool.{Pool, tree, Extends, StandsFor};
 ghost use Rattle.core_terms.specs.Change.{Keeps};
 
 use crate::ids::TermId;
-use crate::no_memory::NoMemory;
+use crate::NoMemory;
 use crate::node::Node;
 use crate::pool::TermPool;
 use std::alloc::Global;

@@ -7,26 +7,29 @@
 
 mod args;
 mod change;
+mod count;
 mod ids;
+mod instance;
 mod measures;
 mod names;
-mod no_memory;
 mod node;
 mod pool;
-mod row;
 mod shifting;
 mod signature;
+mod solutions;
 mod table;
 mod telescope;
 mod traversal;
 
 pub use measures::{MOST_LEVELS, MOST_NODES};
 pub use ids::{ConId, DefId, FamId, FieldId, MetaId, NameId, TermId};
+pub use count::{Count, count_nodes};
+pub use instance::{instantiate, same_term};
 pub use names::Names;
-pub use no_memory::NoMemory;
+pub use solutions::{NoSolutions, Solutions};
+pub use el_base::{Many as Row, NoMemory};
 pub use node::{Args, Node, Parts};
 pub use pool::{PoolMark, TermPool};
-pub use row::Row;
 pub use shifting::{fill, shift, subst, under};
 pub use signature::{CoreDecl, DefEntry, DefState, SigMark, Signature};
 pub use telescope::{Entry, Limits, Telescope};

@@ -1,7 +1,7 @@
 ghost use Rattle.std.specs.Prelude.{◌≡◌, ◌<◌, ◌^◌, [], ◌∷◌, ◌++◌, length, take, slice_get, Some, IfOk, OnErr};
 
 use crate::ids::NameId;
-use crate::no_memory::NoMemory;
+use crate::NoMemory;
 use std::alloc::Global;
 use std::marker::Model;
 

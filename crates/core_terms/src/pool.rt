@@ -7,7 +7,7 @@ ghost use Rattle.core_terms.specs.Pool.{cut_to, no_terms, node_tree, seen, tree}
 
 use crate::ids::TermId;
 use crate::measures::{Known, Measures};
-use crate::no_memory::NoMemory;
+use crate::NoMemory;
 use crate::node::{Node, Parts};
 use indexmap::IndexSet;
 use std::alloc::Global;

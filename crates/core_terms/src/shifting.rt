@@ -7,7 +7,7 @@ ghost use Rattle.core_terms.specs.Shifted.{AreShifted, IsReady, IsReady-stays};
 
 use crate::change::Change;
 use crate::ids::TermId;
-use crate::no_memory::NoMemory;
+use crate::NoMemory;
 use crate::node::Node;
 use crate::pool::TermPool;
 use crate::table::Table;

@@ -3,7 +3,7 @@ ghost use Rattle.core_rules.specs.Signature.{def_decl, defs};
 ghost use Rattle.core_terms.specs.Signature.{decl_of, entry_decl};
 
 use crate::ids::{DefId, NameId, TermId};
-use crate::no_memory::NoMemory;
+use crate::NoMemory;
 use std::alloc::Global;
 use std::marker::Model;
 

@@ -2,7 +2,7 @@ ghost use Rattle.std.specs.Prelude.{◌≡◌, ℕ, Some, None, OnOk};
 ghost use Rattle.core_terms.specs.Table.{found, Puts};
 
 use crate::ids::TermId;
-use crate::no_memory::NoMemory;
+use crate::NoMemory;
 use std::alloc::Global;
 use std::collections::HashMap;
 use std::marker::Model;

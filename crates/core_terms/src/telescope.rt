@@ -1,5 +1,5 @@
 use crate::ids::{NameId, TermId};
-use crate::row::Row;
+use crate::Row;
 use core_rules::Flag;
 use std::marker::Model;
 

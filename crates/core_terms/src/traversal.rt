@@ -7,7 +7,7 @@ ghost use Rattle.core_terms.specs.declared.change.Task.TheVariants.{Make};
 
 use crate::change::{Change, Task};
 use crate::ids::TermId;
-use crate::no_memory::NoMemory;
+use crate::NoMemory;
 use crate::node::{Node, Parts};
 use crate::pool::TermPool;
 use crate::table::Table;
