@@ -2,3 +2,4 @@ mod Leads
 mod Lighter
 mod Ranks
 mod Hops
+mod Resolving

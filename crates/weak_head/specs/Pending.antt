@@ -63,3 +63,8 @@ move g s (AtStep u es) fs = Due u es fs
 pub data Comes (s : Solutions) : Term → Term → Type 0 where
   here : {t : Term} → Comes s t t
   by : (m : ℕ) (ts : Terms) (t u : Term) → s m ≡ Some t → Comes s (put_solution m ts (Some t)) u → Comes s (Meta m ts) u
+
+-- u is t with them replaced, until the head is none
+pub record IsResolved (s : Solutions) (t u : Term) : Type 0 where
+  pub comes : Comes s t u
+  pub rests : (m : ℕ) (ts : Terms) → u ≡ Meta m ts → s m ≡ None

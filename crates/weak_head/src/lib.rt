@@ -1,3 +1,8 @@
-//! Bounded head forms: the head that a term comes to, with the number of steps, or that it waits for a
-//! metavariable, or that the fuel does not suffice.
+//! Bounded head forms: the head that a term comes to with the number of steps, or the metavariable that
+//! it waits for, or that the fuel does not suffice.
 #![tactic(auto)]
+
+mod elim;
+mod resolve;
+
+pub use elim::{Elim, Spine};
