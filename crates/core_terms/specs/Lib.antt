@@ -11,3 +11,10 @@ pub mod Placed
 pub mod Shifted
 pub mod Count
 pub mod Solutions
+pub mod Coded
+pub mod Sizes
+pub mod Patterns
+pub mod Pattern
+pub mod PatternFalls
+pub mod TreeView
+pub mod TreeFalls

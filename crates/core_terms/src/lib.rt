@@ -7,12 +7,14 @@
 
 mod args;
 mod change;
+mod clause;
 mod count;
 mod ids;
 mod instance;
 mod measures;
 mod names;
 mod node;
+mod pattern;
 mod pool;
 mod shifting;
 mod signature;
@@ -20,9 +22,13 @@ mod solutions;
 mod table;
 mod telescope;
 mod traversal;
+mod tree;
 
 pub use measures::{MOST_LEVELS, MOST_NODES};
 pub use ids::{ConId, DefId, FamId, FieldId, MetaId, NameId, TermId};
+pub use clause::{CheckedLeft, ConDecl, CoreClause, Dot, Solved};
+pub use pattern::{Braces, CorePat, Origin, PatShape};
+pub use tree::{Branch, CoBranch, ConBranch, Step, Tree, Way};
 pub use count::{Count, count_nodes};
 pub use instance::{instantiate, same_term};
 pub use names::Names;

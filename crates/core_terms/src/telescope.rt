@@ -27,7 +27,7 @@ impl Model for Entry {
 
 /// Variables with their types, the outermost first: each type stands under the entries before it.
 /// Contracts see the list of the entries.
-#[derive(Drop)]
+#[derive(Debug, Drop)]
 pub struct Telescope {
     pub entries: Row<Entry>,
 }
