@@ -3,3 +3,4 @@ mod Lighter
 mod Ranks
 mod Hops
 mod Resolving
+mod Spines

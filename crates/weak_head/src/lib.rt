@@ -4,5 +4,6 @@
 
 mod elim;
 mod resolve;
+mod spine;
 
 pub use elim::{Elim, Spine};
