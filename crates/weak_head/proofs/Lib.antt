@@ -4,3 +4,4 @@ mod Ranks
 mod Hops
 mod Resolving
 mod Spines
+mod Environments

@@ -2,8 +2,12 @@
 //! it waits for, or that the fuel does not suffice.
 #![tactic(auto)]
 
+mod branches;
 mod elim;
+mod env;
 mod resolve;
 mod spine;
+mod state;
 
 pub use elim::{Elim, Spine};
+pub use state::Applied;
