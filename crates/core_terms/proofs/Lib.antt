@@ -1,7 +1,7 @@
 pub mod Measured
 pub mod Trees
 pub mod Seen
-pub mod Entries
+pub mod Declared
 pub mod Turns
 pub mod Shifts
 pub mod Mapped

@@ -43,6 +43,8 @@ module _ {A B : Type 0} (f : A → B) where
 
 entry_type : (x a : ℕ) (s : DefState) → decl_type (state_decl x a s) ≡ Some a
 entry_type x a S.Postulate = refl
+entry_type x a S.Open = refl
+entry_type x a (S.Closed qs T) = refl
 
 -- the type of a postulate or function, as a tree
 pub entry_type_in : (p : Pool) (g : Signature ℕ) (d : ℕ) (e : DefEntry) → def_decl g d ≡ Some (entry_decl e) → def_type (signature_in p g) d ≡ Some (tree p e.ty)

@@ -18,3 +18,4 @@ pub mod Pattern
 pub mod PatternFalls
 pub mod TreeView
 pub mod TreeFalls
+pub mod Woven

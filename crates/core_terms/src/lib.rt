@@ -37,6 +37,6 @@ pub use el_base::{Many as Row, NoMemory};
 pub use node::{Args, Node, Parts};
 pub use pool::{PoolMark, TermPool};
 pub use shifting::{fill, shift, subst, under};
-pub use signature::{CoreDecl, DefEntry, DefState, SigMark, Signature};
+pub use signature::{CoreDecl, DefEntry, DefState, FamEntry, SigMark, Signature};
 pub use telescope::{Entry, Limits, Telescope};
 

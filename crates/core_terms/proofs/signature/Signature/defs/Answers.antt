@@ -1,6 +1,6 @@
 use Rattle.std.proofs.Common.{arith}
-use Rattle.core_terms.proofs.Entries.{length-entries}
+use Rattle.core_terms.proofs.Declared.{length-defs}
 use Rattle.core_terms.proofs.signature.Signature.defs.Goals as goal
 
 pub returns : goal.returns
-returns c = omega (arith, length-entries c.self.inside.entries.items c.args.self.now c.self.view_is, c.self.inside.entries.ok.0)
+returns c = omega (arith, length-defs c.self.inside.kinds.items c.self.inside.defs.items c.self.inside.fams.items c.self.inside.cons.items c.self.inside.fields.items c.args.self.now c.self.view_is c.self.invariant, c.self.inside.defs.ok.0)
