@@ -2,7 +2,7 @@
 use Rattle.std.specs.Prelude.{◌≡◌, ℕ, zero, suc, ◌+◌, ◌-◌, ◌<◌, ◌≤◌, List, [], ◌∷◌, ◌++◌, length, map, reverse, take, drop, get_or, slice_get, Option, Some, None, refl}
 use Rattle.std.specs.List.{AllByRecursion}
 use Rattle.std.proofs.Common.{arith, sym, ap, ap₂, ◌∙◌, subst, ◌⊎◌, ⊎_elim}
-use Rattle.std.proofs.lemmas.List.{reverse-append, take-append-drop, take_at, take_all, take-map, map-append, length-reverse, length-drop, append_assoc, drop_more}
+use Rattle.std.proofs.lemmas.List.{reverse-append, take-append-drop, take_at, take_all, take-map, map-append, length-reverse, length-drop, append_assoc, drop_more, take_rest}
 use Rattle.std.proofs.lemmas.Bool.{cases_lt}
 use Rattle.core_rules.specs.Term.{Term}
 use Rattle.core_rules.specs.Substitution.{value_at}
@@ -63,3 +63,10 @@ pub kept_next : (p q r : Pool) (env all : List ℕ) (keep : List ℕ) (left v : 
 kept_next p q r env all keep left v g h e a l t i =
     env_push (tree r) all v ∙ ap₂ (λ x xs. x ∷ xs) (t ∙ ap (λ x. value_at x (get_or keep left 0)) (env_stays g env e)) (env_stays h all a ∙ i)
     ∙ ap (map (value_at (env_in (tree p) env))) (sym (drop_more keep left 0 l))
+
+-- the three parts of a list that is made
+pub three_parts : (env us all two one nil front : List ℕ) (b c k : ℕ) → all ≡ two ++ take (length env - c) (drop c env) → two ≡ one ++ us → one ≡ nil ++ front → nil ≡ [] → front ≡ take b env → b ≡ length env - k - 1 → c ≡ length env - k
+    → all ≡ (take (length env - (k + 1)) env ++ us) ++ drop (length env - k) env
+three_parts env us all two one nil front b c k e h i j l m n =
+    let x : one ≡ take (length env - (k + 1)) env = i ∙ ap (λ z. z ++ front) j ∙ l ∙ ap (λ z. take z env) (let y : b ≡ length env - (k + 1) = omega (arith, m) in y) in
+    e ∙ ap₂ (λ y z. y ++ z) (h ∙ ap (λ z. z ++ us) x) (take_rest env c ∙ ap (λ z. drop z env) n)

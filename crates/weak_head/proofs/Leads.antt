@@ -9,16 +9,8 @@ use Rattle.core_rules.specs.Heads.{Solutions, Answer, Form, Blocked, taken, Choi
 use Rattle.core_rules.specs.BoundedLaws.{Next, Ends, Becomes, Calls, next, HeadsBy, NextNode, Unfolds, GoesOn, Asks, StaysThere, next_node, FollowsBy, AfterBy, at_constructor, at_function, at_metavariable}
 use Rattle.core_rules.specs.Bounded.{same_flag}
 use Rattle.core_rules.proofs.Heads.Next.{heads_by_next, follows_by_next, after_by_next}
+use Rattle.weak_head.specs.Meanings.{Meaning, Leads, Means, Resumes, Whole, RunMeans}
 use Rattle.weak_head.specs.Pending.{Now, AtTerm, AtTree, AtAnswer, AtStep, Frame, Run, On, Ended, Due, by_next, by_node, by_choice, move_back, move, Comes, here, by}
-
--- which answers, in how many steps
-abbrev pub Meaning : Type 1
-Meaning = Answer → ℕ → Type 0
-
--- M has the answers of N, each with k steps more
-pub record Leads (M : Meaning) (k : ℕ) (N : Meaning) : Type 0 where
-  pub from : (w : Answer) (n : ℕ) → N w n → M w (k + n)
-  pub only : (w : Answer) (n : ℕ) → M w n → (m : ℕ) × (n ≡ k + m) × N w m
 
 pub leads_zero : {M : Meaning} {N : Meaning} → ((w : Answer) (n : ℕ) → N w n → M w n) → ((w : Answer) (n : ℕ) → M w n → N w n) → Leads M 0 N
 leads_zero {M} {N} f g = record {
@@ -36,40 +28,16 @@ leads_on {M} {N} {P} j k a b = record {
 }
 
 module _ (g : Signature Term) (s : Solutions) where
-  abbrev pub Means : Now → Meaning
-  Means (AtTerm t es) w n = Heads g s t es w n
-  Means (AtTree h all T r es) w n = Follows g s h all T r es w n
-  Means (AtAnswer v) w n = (w ≡ v) × (n ≡ 0)
-  Means (AtStep u es) w n = (m : ℕ) × Heads g s u es w m × (n ≡ 1 + m)
-
-  -- the split goes on with the answer of its value
-  pub record Resumes (f : Frame) (M : Meaning) (w : Answer) (n : ℕ) : Type 0 where
-    pub value : Answer
-    pub before : ℕ
-    pub later : ℕ
-    pub first : M value before
-    pub then_on : After g s f.head f.all f.place f.values f.rest (choice g f.branches value) w later
-    pub total : n ≡ before + later
-
-  abbrev pub Whole : List Frame → Meaning → Meaning
-  Whole [] M = M
-  Whole (f ∷ fs) M = Whole fs (Resumes f M)
-
-  abbrev pub RunMeans : Run → Meaning
-  RunMeans (On x fs) = Whole fs (Means x)
-  RunMeans (Ended w) = Means (AtAnswer w)
-  RunMeans (Due u es fs) = Whole fs (Means (AtStep u es))
-
-  resumes_leads : {M : Meaning} {N : Meaning} (f : Frame) (k : ℕ) → Leads M k N → Leads (Resumes f M) k (Resumes f N)
+  resumes_leads : {M : Meaning} {N : Meaning} (f : Frame) (k : ℕ) → Leads M k N → Leads (Resumes g s f M) k (Resumes g s f N)
   resumes_leads f k a = record {
     from = λ w n x. record { value = x.value; before = k + x.before; later = x.later; first = a.from x.value x.before x.first; then_on = x.then_on; total = omega (arith, x.total) };
     only = λ w n x. let y = a.only x.value x.before x.first in
         (y.0 + x.later, omega (arith, x.total, y.1), record { value = x.value; before = y.0; later = x.later; first = y.2; then_on = x.then_on; total = refl });
   }
 
-  pub whole_leads : (fs : List Frame) (k : ℕ) {M : Meaning} {N : Meaning} → Leads M k N → Leads (Whole fs M) k (Whole fs N)
+  pub whole_leads : (fs : List Frame) (k : ℕ) {M : Meaning} {N : Meaning} → Leads M k N → Leads (Whole g s fs M) k (Whole g s fs N)
   whole_leads [] k a = a
-  whole_leads (f ∷ fs) k {M} {N} a = whole_leads fs k {M = Resumes f M} {N = Resumes f N} (resumes_leads f k a)
+  whole_leads (f ∷ fs) k {M} {N} a = whole_leads fs k {M = Resumes g s f M} {N = Resumes g s f N} (resumes_leads f k a)
 
   -- what comes next takes one step at most
   one_step : (t : Term) (es : List Elim) (k : ℕ) (u : Term) (ds : List Elim) → next g s t es ≡ Becomes (suc k) u ds → k ≡ 0
@@ -100,12 +68,12 @@ module _ (g : Signature Term) (s : Solutions) where
   one_step (Fam d) es k u ds e = absurd cc
 
   -- by the ten kinds of term
-  next_leads : (t : Term) (es : List Elim) (fs : List Frame) (o : Next) → next g s t es ≡ o → Leads (Whole fs (Means (AtTerm t es))) 0 (RunMeans (by_next t es fs o))
+  next_leads : (t : Term) (es : List Elim) (fs : List Frame) (o : Next) → next g s t es ≡ o → Leads (Whole g s fs (Means g s (AtTerm t es))) 0 (RunMeans g s (by_next t es fs o))
   next_leads t es fs (Ends v) e = whole_leads fs 0 (leads_zero (λ w n x. (heads_by_next g s t es w n).1 (back w n x)) (λ w n x. forth w n ((heads_by_next g s t es w n).0 x)))
     where
-      back : (w : Answer) (n : ℕ) → Means (AtAnswer v) w n → HeadsBy g s t es (next g s t es) w n
+      back : (w : Answer) (n : ℕ) → Means g s (AtAnswer v) w n → HeadsBy g s t es (next g s t es) w n
       back w n x = subst (λ o. HeadsBy g s t es o w n) (sym e) x
-      forth : (w : Answer) (n : ℕ) → HeadsBy g s t es (next g s t es) w n → Means (AtAnswer v) w n
+      forth : (w : Answer) (n : ℕ) → HeadsBy g s t es (next g s t es) w n → Means g s (AtAnswer v) w n
       forth w n x = subst (λ o. HeadsBy g s t es o w n) e x
   next_leads t es fs (Becomes zero u ds) e = whole_leads fs 0 (leads_zero (λ w n x. (heads_by_next g s t es w n).1 (back w n x)) (λ w n x. forth w n ((heads_by_next g s t es w n).0 x)))
     where
@@ -117,9 +85,9 @@ module _ (g : Signature Term) (s : Solutions) where
     where
       z : k ≡ 0
       z = one_step t es k u ds e
-      back : (w : Answer) (n : ℕ) → Means (AtStep u ds) w n → HeadsBy g s t es (next g s t es) w n
+      back : (w : Answer) (n : ℕ) → Means g s (AtStep u ds) w n → HeadsBy g s t es (next g s t es) w n
       back w n x = subst (λ o. HeadsBy g s t es o w n) (sym e) (x.0, x.1, omega (arith, x.2, z))
-      forth : (w : Answer) (n : ℕ) → HeadsBy g s t es (next g s t es) w n → Means (AtStep u ds) w n
+      forth : (w : Answer) (n : ℕ) → HeadsBy g s t es (next g s t es) w n → Means g s (AtStep u ds) w n
       forth w n x = let y : HeadsBy g s t es (Becomes (suc k) u ds) w n = subst (λ o. HeadsBy g s t es o w n) e x in (y.0, y.1, omega (arith, y.2, z))
   next_leads t es fs (Calls T) e = whole_leads fs 0 (leads_zero (λ w n x. (heads_by_next g s t es w n).1 (subst (λ o. HeadsBy g s t es o w n) (sym e) x)) (λ w n x. subst (λ o. HeadsBy g s t es o w n) e ((heads_by_next g s t es w n).0 x)))
 
@@ -132,7 +100,7 @@ module _ (g : Signature Term) (s : Solutions) where
       forth : (w : Answer) (n : ℕ) → Follows g s h all T r es w n → FollowsBy g s h all r es o w n
       forth w n x = subst (λ o. FollowsBy g s h all r es o w n) e ((follows_by_next g s h all T r es w n).0 x)
 
-  node_leads : (h : Term) (all : List Elim) (T : Tree Term) (r : List Term) (es : List Elim) (fs : List Frame) (o : NextNode) → next_node g T r es ≡ o → Leads (Whole fs (Means (AtTree h all T r es))) 0 (RunMeans (by_node h all r es fs o))
+  node_leads : (h : Term) (all : List Elim) (T : Tree Term) (r : List Term) (es : List Elim) (fs : List Frame) (o : NextNode) → next_node g T r es ≡ o → Leads (Whole g s fs (Means g s (AtTree h all T r es))) 0 (RunMeans g s (by_node h all r es fs o))
   node_leads h all T r es fs (Unfolds t) e = whole_leads fs 0 (node_alike h all T r es (Unfolds t) e (leads_zero (λ w n x. x) (λ w n x. x)))
   node_leads h all T r es fs (GoesOn U q ds) e = whole_leads fs 0 (node_alike h all T r es (GoesOn U q ds) e (leads_zero (λ w n x. x) (λ w n x. x)))
   node_leads h all T r es fs (Asks k bs) e = whole_leads fs 0 (node_alike h all T r es (Asks k bs) e (leads_zero
@@ -141,24 +109,24 @@ module _ (g : Signature Term) (s : Solutions) where
   node_leads h all T r es fs StaysThere e = whole_leads fs 0 (node_alike h all T r es StaysThere e (leads_zero (λ w n x. x) (λ w n x. x)))
 
   -- the value of the innermost split has its answer
-  back_alike : (f : Frame) (v : Answer) (o : Choice) {N : Meaning} → choice g f.branches v ≡ o → Leads (λ w n. AfterBy g s f.head f.all f.place f.values f.rest o w n) 0 N → Leads (Resumes f (Means (AtAnswer v))) 0 N
+  back_alike : (f : Frame) (v : Answer) (o : Choice) {N : Meaning} → choice g f.branches v ≡ o → Leads (λ w n. AfterBy g s f.head f.all f.place f.values f.rest o w n) 0 N → Leads (Resumes g s f (Means g s (AtAnswer v))) 0 N
   back_alike f v o {N} e l = leads_on 0 0 (leads_zero back forth) l
     where
-      back : (w : Answer) (n : ℕ) → AfterBy g s f.head f.all f.place f.values f.rest o w n → Resumes f (Means (AtAnswer v)) w n
+      back : (w : Answer) (n : ℕ) → AfterBy g s f.head f.all f.place f.values f.rest o w n → Resumes g s f (Means g s (AtAnswer v)) w n
       back w n x = record { value = v; before = 0; later = n; first = (refl, refl); then_on = subst (λ c. After g s f.head f.all f.place f.values f.rest c w n) (sym e) ((after_by_next g s f.head f.all f.place f.values f.rest o w n).1 x); total = omega arith }
-      forth : (w : Answer) (n : ℕ) → Resumes f (Means (AtAnswer v)) w n → AfterBy g s f.head f.all f.place f.values f.rest o w n
+      forth : (w : Answer) (n : ℕ) → Resumes g s f (Means g s (AtAnswer v)) w n → AfterBy g s f.head f.all f.place f.values f.rest o w n
       forth w n x =
           let c : choice g f.branches x.value ≡ o = ap (choice g f.branches) x.first.0 ∙ e in
           let a : After g s f.head f.all f.place f.values f.rest o w x.later = subst (λ c. After g s f.head f.all f.place f.values f.rest c w x.later) c x.then_on in
           let j : x.later ≡ n = omega (arith, x.total, x.first.1) in
           subst (λ i. AfterBy g s f.head f.all f.place f.values f.rest o w i) j ((after_by_next g s f.head f.all f.place f.values f.rest o w x.later).0 a)
 
-  back_leads : (f : Frame) (fs : List Frame) (v : Answer) (o : Choice) → choice g f.branches v ≡ o → Leads (Whole (f ∷ fs) (Means (AtAnswer v))) 0 (RunMeans (by_choice f fs o))
+  back_leads : (f : Frame) (fs : List Frame) (v : Answer) (o : Choice) → choice g f.branches v ≡ o → Leads (Whole g s (f ∷ fs) (Means g s (AtAnswer v))) 0 (RunMeans g s (by_choice f fs o))
   back_leads f fs v (Enters b T us) e = whole_leads fs 0 (back_alike f v (Enters b T us) e (leads_zero (λ w n x. x) (λ w n x. x)))
   back_leads f fs v Stays e = whole_leads fs 0 (back_alike f v Stays e (leads_zero (λ w n x. x) (λ w n x. x)))
   back_leads f fs v (Waits m) e = whole_leads fs 0 (back_alike f v (Waits m) e (leads_zero (λ w n x. x) (λ w n x. x)))
 
-  pub move_leads : (x : Now) (fs : List Frame) → Leads (Whole fs (Means x)) 0 (RunMeans (move g s x fs))
+  pub move_leads : (x : Now) (fs : List Frame) → Leads (Whole g s fs (Means g s x)) 0 (RunMeans g s (move g s x fs))
   move_leads (AtTerm t es) fs = next_leads t es fs (next g s t es) refl
   move_leads (AtTree h all T r es) fs = node_leads h all T r es fs (next_node g T r es) refl
   move_leads (AtAnswer w) [] = leads_same

@@ -5,3 +5,8 @@ mod Hops
 mod Resolving
 mod Spines
 mod Environments
+mod Lookups
+mod Moves
+mod Stays
+mod Calls
+mod Turning

@@ -19,7 +19,7 @@ map-drop f (suc n) [] = refl
 map-drop f (suc n) (x ∷ xs) = map-drop f n xs
 
 -- the items before the last n, reversed
-drop_reverse : {X : Type 0} (n : ℕ) (xs : List X) → reverse (take (length xs - n) xs) ≡ drop n (reverse xs)
+pub drop_reverse : {X : Type 0} (n : ℕ) (xs : List X) → reverse (take (length xs - n) xs) ≡ drop n (reverse xs)
 drop_reverse {X} n xs = ⊎_elim
     (λ (h : n < length xs).
     let m = length xs - n in

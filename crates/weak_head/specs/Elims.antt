@@ -34,6 +34,10 @@ IsArg (Field k) = ⊥
 abbrev pub AreArgs : List Elim → Type 0
 AreArgs es = AllByRecursion IsArg es
 
+abbrev pub arg_of : Elim → Option Term
+arg_of (Arg b u) = Some u
+arg_of (Field k) = None
+
 -- the terms of the arguments
 abbrev pub args_of : List Elim → List Term
 args_of [] = []

@@ -1,6 +1,7 @@
 -- A run towards a head form that is on its way: what is looked at now, and the splits that wait for it.
 use Rattle.std.specs.Prelude.{◌≡◌, ℕ, ◌+◌, List, [], ◌∷◌, Option, Some, None, zero, suc}
-use Rattle.core_rules.specs.Term.{Term, Terms, Meta}
+use Rattle.std.specs.List.{AllByRecursion}
+use Rattle.core_rules.specs.Term.{Term, Terms, Var, Sort, Pi, Lam, App, Def, Fam, Con, Proj, Meta}
 use Rattle.core_rules.specs.Substitution.{value_at, put_solution}
 use Rattle.core_rules.specs.Signature.{Branch, Tree, ConBranches, Signature}
 use Rattle.core_rules.specs.Elimination.{Elim}
@@ -64,7 +65,56 @@ pub data Comes (s : Solutions) : Term → Term → Type 0 where
   here : {t : Term} → Comes s t t
   by : (m : ℕ) (ts : Terms) (t u : Term) → s m ≡ Some t → Comes s (put_solution m ts (Some t)) u → Comes s (Meta m ts) u
 
+-- the head is no solved metavariable
+abbrev pub Rests : Solutions → Term → Type 0
+Rests s u = (m : ℕ) (ts : Terms) → u ≡ Meta m ts → s m ≡ None
+
 -- u is t with them replaced, until the head is none
 pub record IsResolved (s : Solutions) (t u : Term) : Type 0 where
   pub comes : Comes s t u
-  pub rests : (m : ℕ) (ts : Terms) → u ≡ Meta m ts → s m ≡ None
+  pub rests : Rests s u
+
+-- what is looked at once the head is no solved metavariable
+abbrev pub LooksAt : Solutions → Now → Now → Type 0
+LooksAt s (AtTerm t es) l = (u : Term) × IsResolved s t u × (l ≡ AtTerm u es)
+LooksAt s (AtTree h all T r es) l = l ≡ AtTree h all T r es
+LooksAt s (AtAnswer w) l = l ≡ AtAnswer w
+LooksAt s (AtStep u es) l = l ≡ AtStep u es
+
+-- r is one move on from x, over the splits fs that wait
+pub record IsTurn (g : Signature Term) (s : Solutions) (x : Now) (fs : List Frame) (r : Run) : Type 0 where
+  pub looked : Now
+  pub looks : LooksAt s x looked
+  pub is : r ≡ move g s looked fs
+
+-- no application, so that what it stands under are its eliminations
+abbrev pub IsBare : Term → Type 0
+IsBare (App b t u) = ⊥
+IsBare (Var i) = Unit {0}
+IsBare (Sort n) = Unit {0}
+IsBare (Pi b x a t) = Unit {0}
+IsBare (Lam b x a t) = Unit {0}
+IsBare (Def f) = Unit {0}
+IsBare (Fam d) = Unit {0}
+IsBare (Con k ps) = Unit {0}
+IsBare (Proj f t) = Unit {0}
+IsBare (Meta m ts) = Unit {0}
+
+abbrev pub AnswerBare : Answer → Type 0
+AnswerBare (Form h es) = IsBare h
+AnswerBare (Blocked m h es) = IsBare h
+
+-- so are the heads of calls and answers
+abbrev pub NowBare : Now → Type 0
+NowBare (AtTerm t es) = Unit {0}
+NowBare (AtTree h all T r es) = IsBare h
+NowBare (AtAnswer w) = AnswerBare w
+NowBare (AtStep u es) = Unit {0}
+
+abbrev pub FramesBare : List Frame → Type 0
+FramesBare fs = AllByRecursion (λ f. IsBare f.head) fs
+
+abbrev pub RunBare : Run → Type 0
+RunBare (On x fs) = NowBare x × FramesBare fs
+RunBare (Ended w) = AnswerBare w
+RunBare (Due u es fs) = FramesBare fs

@@ -2,12 +2,22 @@
 //! it waits for, or that the fuel does not suffice.
 #![tactic(auto)]
 
+mod answer;
+mod at_answer;
+mod at_term;
+mod at_tree;
+mod bounded;
 mod branches;
 mod elim;
 mod env;
+mod lookup;
+
 mod resolve;
+mod settle;
 mod spine;
 mod state;
 
+pub use answer::{Head, Reduced};
 pub use elim::{Elim, Spine};
+pub use bounded::{applied, head, reduce};
 pub use state::Applied;

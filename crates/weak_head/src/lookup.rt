@@ -6,7 +6,7 @@ ghost use Rattle.core_rules.specs.Heads.{argument_of, is_first};
 ghost use Rattle.core_terms.specs.Pool.{Pool};
 ghost use Rattle.core_terms.specs.Signature.{signature_in};
 
-use core_terms::{ConId, CoreDecl, DefId, DefState, FamId, FieldId, Signature, Tree};
+use core_terms::{ConDecl, ConId, CoreDecl, DefId, DefState, FamId, FieldId, Signature, Tree};
 
 /// The tree of a function, where it has one.
 pub(crate) fn tree_of(sig: &Signature, f: DefId) -> Option<&Tree>
@@ -35,12 +35,22 @@ pub(crate) fn takes(sig: &Signature, con: ConId, count: usize) -> bool
         return false;
     }
     match &sig.fam(fam).decl {
-        CoreDecl::Family { cons, .. } => match cons.as_slice().get(at as usize) {
-            Some(decl) => decl.args.entries.len() == count,
-            None => false,
-        },
+        CoreDecl::Family { cons, .. } => {
+            let cons = cons.as_slice();
+            let at = at as usize;
+            if at >= cons.len() {
+                return false;
+            }
+            argument_count(&cons[at]) == count
+        }
         _ => false,
     }
+}
+
+fn argument_count(con: &ConDecl) -> usize
+    ensures { result ≡ length con.now.args }
+{
+    con.args.entries.len()
 }
 
 /// Whether a constructor is the first of a family.
@@ -51,7 +61,10 @@ fn is_first(sig: &Signature, con: ConId, fam: FamId) -> bool
         return false;
     }
     let (of, at) = sig.con(con);
-    of == fam && at == 0
+    if of.number() != fam.number() {
+        return false;
+    }
+    at == 0
 }
 
 /// Which of the `count` arguments of a constructor a projection takes, where it takes one.
@@ -65,19 +78,24 @@ pub(crate) fn place_of(sig: &Signature, con: ConId, count: usize, field: FieldId
     }
     let (fam, at) = sig.field(field);
     let at = at as usize;
-    if at < count && takes(sig, con, count) && is_first(sig, con, fam) {
-        Some(at)
-    } else {
-        None
+    if at >= count {
+        return None;
     }
+    if !takes(sig, con, count) {
+        return None;
+    }
+    if !is_first(sig, con, fam) {
+        return None;
+    }
+    Some(at)
 }
 
 /// The fields of a record, in order.
-pub(crate) fn fields_of(sig: &Signature, record: FamId) -> &[FieldId]
-    ensures { (p : Pool) → result.now ≡ fields_of (signature_in p sig.now) record }
+pub(crate) fn fields_of(sig: &Signature, fam: FamId) -> &[FieldId]
+    ensures { (p : Pool) → result.now ≡ fields_of (signature_in p sig.now) fam }
 {
-    if record.number() >= sig.fams() {
+    if fam.number() >= sig.fams() {
         return &[];
     }
-    sig.fam(record).fields.as_slice()
+    sig.fam(fam).fields.as_slice()
 }

@@ -1,8 +1,8 @@
-ghost use Rattle.std.specs.Prelude.{◌≡◌, ℕ, ◌<◌, ◌≤◌, drop, length, map, reverse, slice_get, ◌+◌, ◌^◌, IfOk, IfSome};
+ghost use Rattle.std.specs.Prelude.{◌≡◌, ℕ, ◌<◌, ◌≤◌, drop, length, map, reverse, slice_get, option_map, option_and_then, ◌+◌, ◌^◌, IfOk, IfSome};
 ghost use Rattle.std.specs.List.{AllByRecursion};
 ghost use Rattle.core_rules.specs.Term.{Term};
 ghost use Rattle.weak_head.specs.Elims.{AllBelow, AreArgs, IsFirstField};
-ghost use Rattle.weak_head.specs.Elims.{args_of, spine_in};
+ghost use Rattle.weak_head.specs.Elims.{arg_of, args_of, spine_in};
 
 use crate::elim::{Elim, Spine};
 use core_terms::{FieldId, NoMemory, TermId};
@@ -23,7 +23,8 @@ pub(crate) fn elim_at(spine: &Spine, n: usize) -> Option<Elim>
 
 /// The first projection, with the number of arguments before it.
 pub(crate) fn first_field(spine: &Spine) -> Option<(usize, FieldId)>
-    ensures { (f : ℕ → Term) → IsFirstField (spine_in f spine.now.items) result }
+    ensures is { (f : ℕ → Term) → IsFirstField (spine_in f spine.now.items) result }
+    ensures next { IfSome result (λ r. r.0 + 1 < 2 ^ 64) }
 {
     let mut n = 0;
     while let Some(elim) = elim_at(spine, n) {
@@ -33,6 +34,17 @@ pub(crate) fn first_field(spine: &Spine) -> Option<(usize, FieldId)>
         n += 1;
     }
     None
+}
+
+/// The argument that is elimination number `n`, where it is one.
+pub(crate) fn argument_at(spine: &Spine, n: usize) -> Option<TermId>
+    ensures is { (f : ℕ → Term) → option_map f result ≡ option_and_then arg_of (slice_get (spine_in f spine.now.items) n) }
+    ensures below { IfSome result (λ u. (k : ℕ) → AllBelow k spine.now.items → u < k) }
+{
+    match elim_at(spine, n)? {
+        Elim::Arg { arg, .. } => Some(arg),
+        Elim::Field(_) => None,
+    }
 }
 
 /// The spine without its first `n` eliminations.

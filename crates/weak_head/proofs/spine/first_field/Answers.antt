@@ -3,8 +3,8 @@ use Rattle.weak_head.specs.declared.elim.Elim.TheVariants as V
 use Rattle.weak_head.proofs.Spines.{field_at, args_next, args_end, in_reach, none_of}
 use Rattle.weak_head.proofs.spine.first_field.Goals as goal
 
-pub returns-in-Field : goal.returns-in-Field
-returns-in-Field c = λ f. field_at f c.args.spine.now.items c.loop-elim.n c.in-Field.field (ap Some (sym c.in-Field.is) ∙ c.in-Some.ensures.is) (c.loop-elim.invariant.args f)
+pub returns-in-Field-clause-is : goal.returns-in-Field-clause-is
+returns-in-Field-clause-is c = λ f. field_at f c.args.spine.now.items c.loop-elim.n c.in-Field.field (ap Some (sym c.in-Field.is) ∙ c.in-Some.ensures.is) (c.loop-elim.invariant.args f)
 
 pub loop-elim-smaller : goal.loop-elim-smaller
 loop-elim-smaller c = let h = in_reach c.args.spine.now.items c.loop-elim.n c.in-Some.elim c.in-Some.ensures.is in omega (arith, h)
@@ -15,5 +15,5 @@ loop-elim-preserved c = record {
   within = let h = in_reach c.args.spine.now.items c.loop-elim.n c.in-Some.elim c.in-Some.ensures.is in omega (arith, h);
 }
 
-pub returns : goal.returns
-returns c = λ f. args_end f c.args.spine.now.items c.loop-elim.n (sym (none_of c.elim_at.result c.in_default.not-Some) ∙ c.elim_at.ensures.is) (c.loop-elim.invariant.args f)
+pub returns-clause-is : goal.returns-clause-is
+returns-clause-is c = λ f. args_end f c.args.spine.now.items c.loop-elim.n (sym (none_of c.elim_at.result c.in_default.not-Some) ∙ c.elim_at.ensures.is) (c.loop-elim.invariant.args f)
