@@ -2,7 +2,7 @@
 use Rattle.std.specs.Prelude.{◌≡◌, ℕ, zero, suc, ◌+◌, ◌-◌, ◌<◌, ◌≤◌, List, [], ◌∷◌, ◌++◌, length, map, reverse, take, drop, get_or, slice_get, Option, Some, None, refl}
 use Rattle.std.specs.List.{AllByRecursion}
 use Rattle.std.proofs.Common.{arith, sym, ap, ap₂, ◌∙◌, subst, ◌⊎◌, ⊎_elim}
-use Rattle.std.proofs.lemmas.List.{reverse-append, take-append-drop, take_at, take_all, take-map, map-append, length-reverse, length-drop, append_assoc, drop_more, take_rest}
+use Rattle.std.proofs.lemmas.List.{reverse-append, take-append-drop, take_at, take_all, take-map, map-append, length-reverse, length-drop, append_assoc, drop_more, take_rest, take_more}
 use Rattle.std.proofs.lemmas.Bool.{cases_lt}
 use Rattle.core_rules.specs.Term.{Term}
 use Rattle.core_rules.specs.Substitution.{value_at}
@@ -70,3 +70,9 @@ pub three_parts : (env us all two one nil front : List ℕ) (b c k : ℕ) → al
 three_parts env us all two one nil front b c k e h i j l m n =
     let x : one ≡ take (length env - (k + 1)) env = i ∙ ap (λ z. z ++ front) j ∙ l ∙ ap (λ z. take z env) (let y : b ≡ length env - (k + 1) = omega (arith, m) in y) in
     e ∙ ap₂ (λ y z. y ++ z) (h ∙ ap (λ z. z ++ us) x) (take_rest env c ∙ ap (λ z. drop z env) n)
+
+-- one item more of a list that is made item by item
+pub list_next : (f h F : ℕ → Term) (all items : List ℕ) (v n x : ℕ) → map h all ≡ map f all → map f all ≡ map F (take n items) → h v ≡ F x → n < length items → x ≡ get_or items n x → map h (all ++ v ∷ []) ≡ map F (take (n + 1) items)
+list_next f h F all items v n x a b e l i =
+    map-append h all (v ∷ []) ∙ ap₂ (λ xs y. xs ++ y ∷ []) (a ∙ b) (e ∙ ap F i)
+    ∙ sym (ap (map F) (take_more items n x l) ∙ map-append F (take n items) (get_or items n x ∷ []))

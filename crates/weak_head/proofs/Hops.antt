@@ -106,7 +106,7 @@ module _ (s : Solutions) where
         let here : look (before (suc k)) [] (Meta m ts) ≡ suc (look (before k) (reverse vs) t) = ap (λ o. look_in (before (suc k)) o vs) e in
         let env : map (look (before (suc k)) []) (env_of ts) ≡ reverse vs = map-reverse (look (before (suc k)) []) (to_list ts) ∙ ap reverse (sym (look_list (before (suc k)) ts)) in
         let there : look (before (suc k)) [] (under (env_of ts) t) ≡ look (before k) (reverse vs) t =
-            look_under (before (suc k)) (env_of ts) t ∙ ap (λ l. look (before (suc k)) l t) env ∙ sym (steady k (a.rank m) h (reverse vs) t (a.falls m t e)) in
+        look_under (before (suc k)) (env_of ts) t ∙ ap (λ l. look (before (suc k)) l t) env ∙ sym (steady k (a.rank m) h (reverse vs) t (a.falls m t e)) in
         omega (arith, here, there)
 
 -- where the solutions stand among these terms

@@ -73,20 +73,24 @@ module _ (g : Signature Term) (s : Solutions) where
     where
       back : (w : Answer) (n : ℕ) → Means g s (AtAnswer v) w n → HeadsBy g s t es (next g s t es) w n
       back w n x = subst (λ o. HeadsBy g s t es o w n) (sym e) x
+
       forth : (w : Answer) (n : ℕ) → HeadsBy g s t es (next g s t es) w n → Means g s (AtAnswer v) w n
       forth w n x = subst (λ o. HeadsBy g s t es o w n) e x
   next_leads t es fs (Becomes zero u ds) e = whole_leads fs 0 (leads_zero (λ w n x. (heads_by_next g s t es w n).1 (back w n x)) (λ w n x. forth w n ((heads_by_next g s t es w n).0 x)))
     where
       back : (w : Answer) (n : ℕ) → Heads g s u ds w n → HeadsBy g s t es (next g s t es) w n
       back w n x = subst (λ o. HeadsBy g s t es o w n) (sym e) (n, x, omega arith)
+
       forth : (w : Answer) (n : ℕ) → HeadsBy g s t es (next g s t es) w n → Heads g s u ds w n
       forth w n x = let y : HeadsBy g s t es (Becomes zero u ds) w n = subst (λ o. HeadsBy g s t es o w n) e x in let j : y.0 ≡ n = omega (arith, y.2) in subst (λ k. Heads g s u ds w k) j y.1
   next_leads t es fs (Becomes (suc k) u ds) e = whole_leads fs 0 (leads_zero (λ w n x. (heads_by_next g s t es w n).1 (back w n x)) (λ w n x. forth w n ((heads_by_next g s t es w n).0 x)))
     where
       z : k ≡ 0
       z = one_step t es k u ds e
+
       back : (w : Answer) (n : ℕ) → Means g s (AtStep u ds) w n → HeadsBy g s t es (next g s t es) w n
       back w n x = subst (λ o. HeadsBy g s t es o w n) (sym e) (x.0, x.1, omega (arith, x.2, z))
+
       forth : (w : Answer) (n : ℕ) → HeadsBy g s t es (next g s t es) w n → Means g s (AtStep u ds) w n
       forth w n x = let y : HeadsBy g s t es (Becomes (suc k) u ds) w n = subst (λ o. HeadsBy g s t es o w n) e x in (y.0, y.1, omega (arith, y.2, z))
   next_leads t es fs (Calls T) e = whole_leads fs 0 (leads_zero (λ w n x. (heads_by_next g s t es w n).1 (subst (λ o. HeadsBy g s t es o w n) (sym e) x)) (λ w n x. subst (λ o. HeadsBy g s t es o w n) e ((heads_by_next g s t es w n).0 x)))
@@ -97,6 +101,7 @@ module _ (g : Signature Term) (s : Solutions) where
     where
       back : (w : Answer) (n : ℕ) → FollowsBy g s h all r es o w n → Follows g s h all T r es w n
       back w n x = (follows_by_next g s h all T r es w n).1 (subst (λ o. FollowsBy g s h all r es o w n) (sym e) x)
+
       forth : (w : Answer) (n : ℕ) → Follows g s h all T r es w n → FollowsBy g s h all r es o w n
       forth w n x = subst (λ o. FollowsBy g s h all r es o w n) e ((follows_by_next g s h all T r es w n).0 x)
 
@@ -114,6 +119,7 @@ module _ (g : Signature Term) (s : Solutions) where
     where
       back : (w : Answer) (n : ℕ) → AfterBy g s f.head f.all f.place f.values f.rest o w n → Resumes g s f (Means g s (AtAnswer v)) w n
       back w n x = record { value = v; before = 0; later = n; first = (refl, refl); then_on = subst (λ c. After g s f.head f.all f.place f.values f.rest c w n) (sym e) ((after_by_next g s f.head f.all f.place f.values f.rest o w n).1 x); total = omega arith }
+
       forth : (w : Answer) (n : ℕ) → Resumes g s f (Means g s (AtAnswer v)) w n → AfterBy g s f.head f.all f.place f.values f.rest o w n
       forth w n x =
           let c : choice g f.branches x.value ≡ o = ap (choice g f.branches) x.first.0 ∙ e in

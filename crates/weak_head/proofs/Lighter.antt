@@ -143,7 +143,7 @@ module _ (g : Signature Term) (f : Solutions) where
     by_term (Lam b x a t) [] fs p = let x = form_ends (Lam b x a t) [] fs in omega (arith, x)
     by_term (Lam b x a t) (Arg c u ∷ es) fs p =
         elim (same_flag b c) as (λ o. run_turns (by_next (Lam b x a t) (Arg c u ∷ es) fs (cond o (Becomes 1 (subst t 0 u) es) (Ends (Form (Lam b x a t) (Arg c u ∷ es))))) < suc (now_turns (AtTerm (Lam b x a t) (Arg c u ∷ es)) fs)) [
-          true ↦ let x = step_due (subst t 0 u) es (Lam b x a t) (Arg c u ∷ es) fs in omega (arith, x)
+          | true ↦ let x = step_due (subst t 0 u) es (Lam b x a t) (Arg c u ∷ es) fs in omega (arith, x)
           | false ↦ let x = form_ends (Lam b x a t) (Arg c u ∷ es) fs in omega (arith, x)
         ]
     by_term (Lam b x a t) (Field i ∷ es) fs p = let x = form_ends (Lam b x a t) (Field i ∷ es) fs in omega (arith, x)

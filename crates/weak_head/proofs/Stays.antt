@@ -1,5 +1,5 @@
 -- What states of a run stand for stays as the pool grows.
-use Rattle.std.specs.Prelude.{◌≡◌, ℕ, zero, suc, ◌+◌, ◌<◌, ◌≤◌, List, [], ◌∷◌, length, map, reverse, drop, Option, Some, None, refl}
+use Rattle.std.specs.Prelude.{◌≡◌, ℕ, zero, suc, ◌+◌, ◌<◌, ◌≤◌, List, [], ◌∷◌, ◌++◌, length, map, reverse, drop, Option, Some, None, refl}
 use Rattle.std.specs.List.{AllByRecursion}
 use Rattle.std.proofs.Common.{arith, sym, ap, ap₂, ◌∙◌}
 use Rattle.core_rules.specs.Term.{Term, Sort}
@@ -10,6 +10,7 @@ use Rattle.core_terms.specs.TreeView.{con_of}
 use Rattle.core_terms.specs.Pool.{Pool, tree, Extends}
 use Rattle.core_terms.specs.Growth.{Extends-tree, Extends-length}
 use Rattle.core_terms.proofs.Mapped.{signature_map-same, AllDecls-weaker}
+use Rattle.el_base.proofs.Lists.{reverse_push}
 use Rattle.el_base.proofs.Throughout.{map-same, all-reverse, all-weaker}
 use Rattle.weak_head.specs.declared.elim.Elim as E
 use Rattle.weak_head.specs.declared.elim.Elim.TheVariants as V
@@ -88,3 +89,6 @@ module _ {p q : Pool} (g : Extends p q) where
 
   pub frames_stay : (xs : List F.Frame) → FramesBelow (length p.trees) xs → frames_in (tree q) xs ≡ frames_in (tree p) xs
   frames_stay xs h = map-same (FrameBelow (length p.trees)) (frame_in (tree q)) (frame_in (tree p)) frame_stays (reverse xs) (all-reverse (FrameBelow (length p.trees)) xs h)
+
+pub frames_push : (f : ℕ → Term) (xs : List F.Frame) (x : F.Frame) → frames_in f (xs ++ x ∷ []) ≡ frame_in f x ∷ frames_in f xs
+frames_push f xs x = ap (map (frame_in f)) (reverse_push xs x)

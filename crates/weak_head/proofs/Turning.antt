@@ -17,7 +17,7 @@ use Rattle.core_terms.specs.Solutions.{AreIn, solved_in, solved_in-stays}
 use Rattle.core_terms.proofs.SignatureGrowth.{signature_in-extends}
 use Rattle.weak_head.specs.Meanings.{Meaning, Leads, Means, Whole, RunMeans, Settles}
 use Rattle.weak_head.specs.Pending.{Now, AtTerm, AtTree, AtAnswer, AtStep, Frame, Run, On, Ended, Due, by_next, by_node, by_choice, move, Rests, IsResolved, IsTurn, IsBare, AnswerBare, NowBare, FramesBare, RunBare}
-use Rattle.weak_head.proofs.Leads.{leads_on, leads_same, whole_leads, move_leads, comes_leads}
+use Rattle.weak_head.proofs.Leads.{leads_on, whole_leads, move_leads, comes_leads, ends, runs_out, goes_on}
 use Rattle.weak_head.proofs.Lighter.{run_turns, now_turns, frames_turns, turns, move_lighter, comes_weight}
 use Rattle.weak_head.proofs.Ranks.{put_in, full_among}
 use Rattle.weak_head.proofs.Resolving.{among}
@@ -128,3 +128,25 @@ whole_solutions p f = put_in (length p.trees) (solved_in p f)
 
 pub whole_full : (p : Pool) (f : ℕ → Option ℕ) → AreIn p f → IsAcyclic (solved_in p f) → IsFull (solved_in p f) (whole_solutions p f)
 whole_full p f h a = full_among p.trees (solved_in p f) (among p f h) a
+
+-- ---- from one step to the next
+
+module _ (g : Signature Term) (s : Solutions) (t : Term) (used : ℕ) (x : Now) (fs : List Frame) (r : Run)
+    (l : Leads (Heads g s t []) used (Whole g s fs (Means g s x))) (k : Settles g s x fs r) where
+  led : Leads (Heads g s t []) used (RunMeans g s r)
+  led = let e : used + 0 ≡ used = omega arith in subst (λ n. Leads (Heads g s t []) n (RunMeans g s r)) e (leads_on used 0 l k)
+
+  pub answered : (fuel : ℕ) (w : Answer) → r ≡ Ended w → used ≤ fuel → HeadOf g s t fuel (Within w used)
+  answered fuel w e h = ends t used fuel w (subst (λ r. Leads (Heads g s t []) used (RunMeans g s r)) e led) h
+
+  pub ran_out : (fuel : ℕ) (u : Term) (es : List Elim) (ds : List Frame) → r ≡ Due u es ds → fuel ≤ used → HeadOf g s t fuel Out
+  ran_out fuel u es ds e h = runs_out g s t used fuel u es ds (subst (λ r. Leads (Heads g s t []) used (RunMeans g s r)) e led) h
+
+  pub stepped : (u v : Term) (es es' : List Elim) (ds ds' : List Frame) → r ≡ Due u es ds → v ≡ u → es' ≡ es → ds' ≡ ds → Leads (Heads g s t []) (used + 1) (Whole g s ds' (Means g s (AtTerm v es')))
+  stepped u v es es' ds ds' e a b c =
+      let here : Leads (Heads g s t []) (used + 1) (Whole g s ds (Means g s (AtTerm u es))) = leads_on used 1 (subst (λ r. Leads (Heads g s t []) used (RunMeans g s r)) e led) (goes_on g s u es ds) in
+      subst (λ ds. Leads (Heads g s t []) (used + 1) (Whole g s ds (Means g s (AtTerm v es')))) (sym c)
+      (subst₂ (λ u es. Leads (Heads g s t []) (used + 1) (Whole g s ds (Means g s (AtTerm u es)))) (sym a) (sym b) here)
+
+pub settled_at : {p q : Pool} → Extends p q → (sig : Signature ℕ) → Stands p sig → (f : ℕ → Option ℕ) → AreIn p f → (x : Now) (fs : List Frame) (r : Run) → Settles (signature_in q sig) (solved_in q f) x fs r → Settles (signature_in p sig) (solved_in p f) x fs r
+settled_at {p} {q} e sig stands f known x fs r k = subst₂ (λ g s. Settles g s x fs r) (signature_in-extends p q sig e stands) (solved_in-stays p q f e known) k

@@ -5,7 +5,10 @@ use core_terms::{MetaId, TermId};
 #[derive(Clone, Copy, Debug, PartialEq, Eq)]
 pub enum Head {
     /// The head form.
-    Form { term: TermId, used: u32 },
+    Form {
+        term: TermId,
+        used: u32,
+    },
     /// The term comes to this one, which waits for the unsolved metavariable: it is its head, or the
     /// head of the value that a split waits for.
     Blocked {

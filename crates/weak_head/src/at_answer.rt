@@ -10,7 +10,7 @@ use crate::env::{kept, spread};
 use crate::lookup::takes;
 use crate::spine::{arguments, first_field};
 use crate::state::{Applied, Call, Frame, State};
-use core_terms::{Branch, MetaId, Node, NoMemory, Signature, TermPool};
+use core_terms::{Branch, MetaId, NoMemory, Node, Signature, TermPool};
 use std::alloc::Global;
 
 /// One move from an answer, back at the split that waits for it.
@@ -29,7 +29,7 @@ pub(crate) fn at_answer<'a>(
     ensures below { IfOk result (StateBelow (length pool.new.trees)) }
     ensures is { IfOk result (λ x. (s : Solutions) (fs : List Waiting) →
         On (state_in (tree pool.new) x) fs ≡ move (signature_in pool.old sig.now) s
-            (AtAnswer (answer_in (tree pool.old) meta term)) (frame_in (tree pool.old) frame.entry ∷ fs)) }
+        (AtAnswer (answer_in (tree pool.old) meta term)) (frame_in (tree pool.old) frame.entry ∷ fs)) }
 {
     let Frame { call, at, branches } = frame;
     if meta.is_some() {
@@ -47,7 +47,11 @@ pub(crate) fn at_answer<'a>(
     let Some(found) = branch_of_con(branches, con) else {
         return Ok(State::Answer(None, call.term));
     };
-    let Call { term: of, taken, env } = call;
+    let Call {
+        term: of,
+        taken,
+        env,
+    } = call;
     let parts = arguments(alloc, &term.spine)?;
     let wide = spread(alloc, env.as_slice(), at, parts.as_slice())?;
     let env = kept(alloc, pool, wide.as_slice(), keep_of(found.0))?;

@@ -14,7 +14,7 @@ use crate::lookup::{place_of, tree_of};
 use crate::spine::{argument_at, elim_at, first_field, without};
 use crate::state::{Applied, Call, Due, State};
 use core_rules::Flag;
-use core_terms::{ConId, Node, NoMemory, Signature, TermId, TermPool};
+use core_terms::{ConId, NoMemory, Node, Signature, TermId, TermPool};
 use std::alloc::Global;
 
 /// One move from a term whose head is no solved metavariable.
@@ -29,7 +29,7 @@ pub(crate) fn at_term<'a>(
     ensures below { IfOk result (StateBelow (length pool.now.trees)) }
     ensures is { IfOk result (λ x. (s : Solutions) (fs : List Frame) → Rests s (tree pool.now term.head) →
         On (state_in (tree pool.now) x) fs ≡ move (signature_in pool.now sig.now) s
-            (AtTerm (tree pool.now term.head) (spine_in (tree pool.now) term.spine.items)) fs) }
+        (AtTerm (tree pool.now term.head) (spine_in (tree pool.now) term.spine.items)) fs) }
 {
     let Applied { head, spine } = term;
     match pool.node(head) {
@@ -98,7 +98,7 @@ fn at_constructor<'a>(sig: &Signature, head: TermId, con: ConId, spine: Spine) -
     ensures below { (n : ℕ) → head < n → AllBelow n spine.items → StateBelow n result }
     ensures is { (p : Pool) (s : Solutions) (fs : List Frame) (ps : Terms) → tree p head ≡ ConTerm con ps →
         On (state_in (tree p) result) fs ≡
-            move (signature_in p sig.now) s (AtTerm (tree p head) (spine_in (tree p) spine.items)) fs }
+        move (signature_in p sig.now) s (AtTerm (tree p head) (spine_in (tree p) spine.items)) fs }
 {
     let Some(found) = first_field(&spine) else {
         return State::Answer(None, Applied { head, spine });

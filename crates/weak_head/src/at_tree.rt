@@ -16,7 +16,7 @@ use crate::env::{spread, value};
 use crate::lookup::fields_of;
 use crate::spine::{elim_at, without};
 use crate::state::{Call, Due, Frame, State, Turned};
-use core_terms::{CoBranch, FamId, Node, NoMemory, Signature, Step, TermId, TermPool, Tree};
+use core_terms::{CoBranch, FamId, NoMemory, Node, Signature, Step, TermId, TermPool, Tree};
 use std::alloc::Global;
 
 /// One move from a call at a node of its tree.
@@ -122,7 +122,10 @@ fn projections(
 {
     let mut all = Vec::new(alloc);
     for field in fields_of(sig, fam) {
-        let part = pool.add(Node::Proj { field: *field, of: v })?;
+        let part = pool.add(Node::Proj {
+            field: *field,
+            of: v,
+        })?;
         all.push(part)?;
     }
     Ok(all)

@@ -13,7 +13,7 @@ use crate::elim::Elim;
 use crate::settle::settle;
 use crate::spine::elim_at;
 use crate::state::{Applied, Due, Run, State};
-use core_terms::{Node, NoMemory, Signature, Solutions, TermId, TermPool, subst, under};
+use core_terms::{NoMemory, Node, Signature, Solutions, TermId, TermPool, subst, under};
 use smallvec::SmallVec;
 use std::alloc::Global;
 

@@ -6,7 +6,7 @@ ghost use Rattle.core_terms.specs.Pool.{Extends, StandsFor, tree};
 ghost use Rattle.weak_head.specs.Elims.{env_in};
 ghost use Rattle.weak_head.specs.States.{Ids};
 
-use core_terms::{Node, NoMemory, TermId, TermPool};
+use core_terms::{NoMemory, Node, TermId, TermPool};
 use std::alloc::Global;
 
 /// The value of variable `k`; the last value of an environment is that of variable 0. A variable

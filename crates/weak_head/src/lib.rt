@@ -11,13 +11,12 @@ mod branches;
 mod elim;
 mod env;
 mod lookup;
-
 mod resolve;
 mod settle;
 mod spine;
 mod state;
 
 pub use answer::{Head, Reduced};
-pub use elim::{Elim, Spine};
 pub use bounded::{applied, head, reduce};
+pub use elim::{Elim, Spine};
 pub use state::Applied;

@@ -6,7 +6,7 @@ ghost use Rattle.core_terms.specs.Pool.{Extends, IsArgs, args, tree};
 ghost use Rattle.core_terms.specs.Solutions.{AreIn, solved_in};
 ghost use Rattle.weak_head.specs.Pending.{IsResolved};
 
-use core_terms::{Args, Node, NoMemory, Solutions, TermId, TermPool, under};
+use core_terms::{Args, NoMemory, Node, Solutions, TermId, TermPool, under};
 use std::alloc::Global;
 
 /// The term with solved metavariables at its head replaced, until its head is none.

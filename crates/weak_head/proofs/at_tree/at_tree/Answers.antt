@@ -35,14 +35,14 @@ returns-in-Intro-clause-below c =
     let n = length c.args.pool.now.trees in
     let t : c.args.node.now ≡ Intro c.in-Intro.rest.value = sym c.node.view_is ∙ ap step_of c.in-Intro.is in
     let h : AllTree (λ i. i < n) c.in-Intro.rest.value = subst (AllTree (λ i. i < n)) t c.requires.node in
-    c.in_ok-next.ensures.below n c.requires.call (subst (AllTree (λ i. i < n)) (sym c.deref.ensures) h)
+    c.in_ok-next-in-Intro.ensures.below n c.requires.call (subst (AllTree (λ i. i < n)) (sym c.deref.ensures) h)
 
 pub returns-in-Intro-clause-is : goal.returns-in-Intro-clause-is
 returns-in-Intro-clause-is c = λ s fs.
     let f = tree c.args.pool.now in
     let g = signature_in c.args.pool.now c.args.sig.now in
     let t : c.args.node.now ≡ Intro c.in-Intro.rest.value = sym c.node.view_is ∙ ap step_of c.in-Intro.is in
-    c.in_ok-next.ensures.is f g s fs ∙ ap (λ T. move g s (call_in f c.args.call T) fs) (ap Intro c.deref.ensures ∙ sym t)
+    c.in_ok-next-in-Intro.ensures.is f g s fs ∙ ap (λ T. move g s (call_in f c.args.call T) fs) (ap Intro c.deref.ensures ∙ sym t)
 
 pub returns-in-Cosplit-clause-below : goal.returns-in-Cosplit-clause-below
 returns-in-Cosplit-clause-below c =
@@ -63,10 +63,13 @@ returns-in-Split-clause-below c =
     let n = length c.args.pool.now.trees in
     let e = c.in_ok-v-in-Split.ensures.extends in
     let t : c.args.node.now ≡ Split c.in-Split.at (con_of c.in-Split.branches.items) = sym c.node.view_is ∙ ap step_of c.in-Split.is in
-    let h : AllConBranches (λ i. i < n) (con_of c.in-Split.branches.items) = subst (AllTree (λ i. i < n)) t c.requires.node in
-    ((call_more e c.args.call c.requires.call,
-      branches_more e c.args.call.term.head (con_of c.as_slice-in-Split-2.result.now) c.requires.call.0.0 (subst (λ l. AllConBranches (λ i. i < n) (con_of l)) (sym c.as_slice-in-Split-2.ensures.value) h)),
-      c.in_ok-v-in-Split.ensures.is.within)
+    let h : AllConBranches (λ i. i < n) (con_of c.in-Split.branches.items) = subst (AllTree (λ i. i < n)) t c.requires.node in (
+      (
+        call_more e c.args.call c.requires.call,
+        branches_more e c.args.call.term.head (con_of c.as_slice-in-Split-2.result.now) c.requires.call.0.0 (subst (λ l. AllConBranches (λ i. i < n) (con_of l)) (sym c.as_slice-in-Split-2.ensures.value) h),
+      ),
+      c.in_ok-v-in-Split.ensures.is.within,
+    )
 
 pub returns-in-Split-clause-is : goal.returns-in-Split-clause-is
 returns-in-Split-clause-is c = λ s fs.
@@ -87,10 +90,13 @@ returns-in-RecordSplit-clause-below c =
     let m = length c.projections.new.pool.trees in
     let e = Extends-trans c.in_ok-v-in-RecordSplit.ensures.extends c.in_ok-parts-in-RecordSplit.ensures.extends in
     let t : c.args.node.now ≡ RecordSplit c.in-RecordSplit.at c.in-RecordSplit.fam c.in-RecordSplit.rest.value = sym c.node.view_is ∙ ap step_of c.in-RecordSplit.is in
-    let h : AllTree (λ i. i < n) c.in-RecordSplit.rest.value = subst (AllTree (λ i. i < n)) t c.requires.node in
-    ((applied_more e c.args.call.term c.requires.call.0,
-      c.in_ok-env-in-RecordSplit.ensures.below m (subst (Ids m) (sym c.as_slice-in-RecordSplit-2.ensures.value) (ids_more e c.args.call.env.items c.requires.call.1)) (subst (Ids m) (sym c.as_slice-in-RecordSplit-3.ensures.value) c.in_ok-parts-in-RecordSplit.ensures.below)),
-      subst (AllTree (λ i. i < m)) (sym c.deref-in-RecordSplit.ensures) (tree_more e c.args.call.term.head c.in-RecordSplit.rest.value c.requires.call.0.0 h))
+    let h : AllTree (λ i. i < n) c.in-RecordSplit.rest.value = subst (AllTree (λ i. i < n)) t c.requires.node in (
+      (
+        applied_more e c.args.call.term c.requires.call.0,
+        c.in_ok-env-in-RecordSplit.ensures.below m (subst (Ids m) (sym c.as_slice-in-RecordSplit-2.ensures.value) (ids_more e c.args.call.env.items c.requires.call.1)) (subst (Ids m) (sym c.as_slice-in-RecordSplit-3.ensures.value) c.in_ok-parts-in-RecordSplit.ensures.below),
+      ),
+      subst (AllTree (λ i. i < m)) (sym c.deref-in-RecordSplit.ensures) (tree_more e c.args.call.term.head c.in-RecordSplit.rest.value c.requires.call.0.0 h),
+    )
 
 pub returns-in-RecordSplit-clause-is : goal.returns-in-RecordSplit-clause-is
 returns-in-RecordSplit-clause-is c = λ s fs.
@@ -110,7 +116,7 @@ returns-in-RecordSplit-clause-is c = λ s fs.
     let e2 = spine_stays e c.args.call.term.spine.items c.requires.call.0.1 in
     let e3 = ap (tree_map (tree q)) c.deref-in-RecordSplit.ensures ∙ tree_stays e c.args.call.term.head rest c.requires.call.0.0 h in
     let e4 = c.in_ok-env-in-RecordSplit.ensures.is (tree q)
-        ∙ ap₂ (λ x y. spread at (map (tree q) x) (env_in (tree q) y)) c.as_slice-in-RecordSplit-3.ensures.value c.as_slice-in-RecordSplit-2.ensures.value
-        ∙ ap₂ (spread at) (c.in_ok-parts-in-RecordSplit.ensures.is ∙ projections_in c.value-in-RecordSplit.new.pool p c.args.sig.now c.in-RecordSplit.fam v) (env_stays e env c.requires.call.1) in
+    ∙ ap₂ (λ x y. spread at (map (tree q) x) (env_in (tree q) y)) c.as_slice-in-RecordSplit-3.ensures.value c.as_slice-in-RecordSplit-2.ensures.value
+    ∙ ap₂ (spread at) (c.in_ok-parts-in-RecordSplit.ensures.is ∙ projections_in c.value-in-RecordSplit.new.pool p c.args.sig.now c.in-RecordSplit.fam v) (env_stays e env c.requires.call.1) in
     let same : _ = λ i. On (AtTree (e1 i) (e2 i) (e3 i) (e4 i) (drop c.args.call.taken (e2 i))) fs in
     same ∙ ap (λ T. move g s (call_in f c.args.call T) fs) (sym t)

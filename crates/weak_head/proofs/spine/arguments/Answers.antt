@@ -12,11 +12,11 @@ loop-elim-smaller c = let h = in_reach c.args.spine.now.items c.loop-elim.n c.in
 pub loop-elim-preserved : goal.loop-elim-preserved
 loop-elim-preserved c = record {
   is = λ f. elim c.match-elim.branch [
-    in-Arg+in_ok-push w ↦ ap (λ v. map f v.items) w.all-is ∙ gathered_arg f c.args.spine.now.items c.loop-elim.n w.in-Arg.flag w.in-Arg.arg c.loop-elim.all.items w.push.new.self.items (ap Some (sym w.in-Arg.is) ∙ c.in-Some.ensures.is) (c.loop-elim.invariant.is f) w.in_ok-push.ensures.items
+    | in-Arg+in_ok-push w ↦ ap (λ v. map f v.items) w.all-is ∙ gathered_arg f c.args.spine.now.items c.loop-elim.n w.in-Arg.flag w.in-Arg.arg c.loop-elim.all.items w.push.new.self.items (ap Some (sym w.in-Arg.is) ∙ c.in-Some.ensures.is) (c.loop-elim.invariant.is f) w.in_ok-push.ensures.items
     | in_default-elim w ↦ ap (λ v. map f v.items) w.all-is ∙ gathered_field f c.args.spine.now.items c.loop-elim.n w.in_default-elim.field-0 c.loop-elim.all.items (ap Some (sym w.in_default-elim.is) ∙ c.in-Some.ensures.is) (c.loop-elim.invariant.is f)
   ];
   below = λ k h. elim c.match-elim.branch [
-    in-Arg+in_ok-push w ↦ subst (λ v. AllByRecursion (λ i. i < k) v.items) (sym w.all-is) (subst (AllByRecursion (λ i. i < k)) (sym w.in_ok-push.ensures.items) (all-push (λ i. i < k) c.loop-elim.all.items w.in-Arg.arg (c.loop-elim.invariant.below k h) (below_at k c.args.spine.now.items c.loop-elim.n (V.Arg w.in-Arg.flag w.in-Arg.arg) (ap Some (sym w.in-Arg.is) ∙ c.in-Some.ensures.is) h)))
+    | in-Arg+in_ok-push w ↦ subst (λ v. AllByRecursion (λ i. i < k) v.items) (sym w.all-is) (subst (AllByRecursion (λ i. i < k)) (sym w.in_ok-push.ensures.items) (all-push (λ i. i < k) c.loop-elim.all.items w.in-Arg.arg (c.loop-elim.invariant.below k h) (below_at k c.args.spine.now.items c.loop-elim.n (V.Arg w.in-Arg.flag w.in-Arg.arg) (ap Some (sym w.in-Arg.is) ∙ c.in-Some.ensures.is) h)))
     | in_default-elim w ↦ subst (λ v. AllByRecursion (λ i. i < k) v.items) (sym w.all-is) (c.loop-elim.invariant.below k h)
   ];
   within = let h = in_reach c.args.spine.now.items c.loop-elim.n c.in-Some.elim c.in-Some.ensures.is in omega (arith, h);
