@@ -301,6 +301,20 @@ impl Signature {
         self.fams.len() as u32
     }
 
+    /// How many constructors there are.
+    pub fn cons(&self) -> u32
+        ensures { result ≡ con_total self.now }
+    {
+        self.cons.len() as u32
+    }
+
+    /// How many fields there are.
+    pub fn fields(&self) -> u32
+        ensures { result ≡ field_total self.now }
+    {
+        self.fields.len() as u32
+    }
+
     /// Gives a function that has no tree its clauses and its tree.
     pub fn close(&mut self, f: DefId, clauses: Vec<CoreClause>, tree: Tree)
         requires { IsOpen self.old f }

@@ -1,0 +1,12 @@
+mod Leads
+mod Lighter
+mod Ranks
+mod Hops
+mod Resolving
+mod Spines
+mod Environments
+mod Lookups
+mod Moves
+mod Stays
+mod Calls
+mod Turning

@@ -1,0 +1,5 @@
+pub mod Pending
+pub mod Meanings
+pub mod Elims
+pub mod States
+pub mod Answers
