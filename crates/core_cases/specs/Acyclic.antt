@@ -1,6 +1,6 @@
 -- Solutions of one metavariable, or of none, are acyclic where no metavariable stands in the one.
 use Rattle.std.specs.Prelude.{◌≡◌, ℕ, ◌<◌, eqb, cond, Bool, true, false, length, Option, Some, None, option_map}
-use Rattle.std.proofs.Common.{ap, sym, ◌∙◌, subst}
+use Rattle.std.proofs.Common.{sym, ◌∙◌, subst}
 use Rattle.std.proofs.lemmas.Option.{same_Some}
 use Rattle.core_rules.specs.Term.{Term, Sort, AllMetas}
 use Rattle.core_rules.specs.InScope.{IsAcyclic}

@@ -10,6 +10,7 @@ use core_terms::{
     instantiate, same_term, shift, subst, under,
 };
 use std::alloc::Global;
+use std::io;
 
 /// One metavariable is solved.
 #[derive(Drop)]
@@ -47,15 +48,15 @@ fn doubled_term(pool: &mut TermPool, t: TermId) -> Result<TermId, NoMemory>
     Ok(term)
 }
 
-/// The term applied to the argument so often.
-fn chain_of(pool: &mut TermPool, t: TermId, arg: TermId, times: u32) -> Result<TermId, NoMemory>
+/// The term applied to the argument a million times.
+fn chain_of(pool: &mut TermPool, t: TermId, arg: TermId) -> Result<TermId, NoMemory>
     requires t { t < length pool.old.trees }
     requires arg { arg < length pool.old.trees }
     ensures extends { Extends pool.old pool.new }
     ensures within { IfOk result (λ r. r < length pool.new.trees) }
 {
     let mut term = t;
-    for _ in 0..times {
+    for _ in 0..1_000_000 {
         term = pool.add(Node::App {
             flag: Flag::Explicit,
             fun: term,
@@ -65,13 +66,33 @@ fn chain_of(pool: &mut TermPool, t: TermId, arg: TermId, times: u32) -> Result<T
     Ok(term)
 }
 
+/// The metavariable that is solved, applied to nothing.
+#[tactic(auto, using(core_terms::specs::Growth::growth))]
+fn hole(pool: &mut TermPool) -> Result<TermId, NoMemory>
+    ensures extends { Extends pool.old pool.new }
+    ensures within { IfOk result (λ r. r < length pool.new.trees) }
+{
+    let args = pool.add_args(&[])?;
+    pool.add(Node::Meta {
+        meta: MetaId::new(0),
+        args,
+    })
+}
+
+/// A variable, a sort and the metavariable: three nodes.
+fn add_leaves(pool: &mut TermPool) -> Result<(), NoMemory> {
+    pool.add(Node::Var(0))?;
+    pool.add(Node::Sort(0))?;
+    hole(pool)?;
+    Ok(())
+}
+
 /// The term with a sort for the metavariable.
 fn instance(alloc: Global, pool: &mut TermPool, one: &One, t: TermId) -> Result<TermId, NoMemory>
     requires t { t < length pool.old.trees }
     requires solution { one.now.term < length pool.old.trees }
     requires sort { tree pool.old one.now.term ≡ Sort 0 }
-    ensures extends { Extends pool.old pool.new }
-    ensures within { IfOk result (λ r. r < length pool.new.trees) }
+    ensures { Extends pool.old pool.new }
 {
     instantiate(alloc, pool, one, t)
 }
@@ -88,86 +109,9 @@ fn is_same(
     requires u { u < length pool.old.trees }
     requires solution { one.now.term < length pool.old.trees }
     requires sort { tree pool.old one.now.term ≡ Sort 0 }
-    ensures extends { Extends pool.old pool.new }
+    ensures { Extends pool.old pool.new }
 {
     same_term(alloc, pool, one, t, u)
-}
-
-fn is_too_large(pool: &TermPool, t: TermId) -> Result<bool, NoMemory>
-    requires { t < length pool.now.trees }
-{
-    Ok(count_nodes(pool, t)? == Count::TooLarge)
-}
-
-/// By hand: the variable, the sort, which is the empty list too, and the metavariable are three nodes.
-/// Doubling makes 60 nodes. Raised it has 61 others; with the sort for the variable 60 others, which
-/// are those of the term under the sort and of the metavariable's term with its solution.
-#[tactic(auto, using(core_terms::specs::Growth::growth))]
-pub fn doubled(rt: &HostRuntime) -> Result<(), Fault> {
-    let mut pool = TermPool::new(rt.alloc())?;
-    let variable = pool.add(Node::Var(0))?;
-    let set = pool.add(Node::Sort(0))?;
-    let args = pool.add_args(&[])?;
-    let meta = MetaId::new(0);
-    let hole = pool.add(Node::Meta { meta, args })?;
-    let term = doubled_term(&mut pool, variable)?;
-    println!(rt;
-        "doubled: {} nodes, too large: {}",
-        pool.len(),
-        is_too_large(&pool, term)?
-    )?;
-    shift(rt.alloc(), &mut pool, term, 0, 7)?;
-    println!(rt; "raised: {} nodes", pool.len())?;
-    let replaced = subst(rt.alloc(), &mut pool, term, 0, set)?;
-    println!(rt; "replaced: {} nodes", pool.len())?;
-    let closed = under(rt.alloc(), &mut pool, term, &[set])?;
-    println!(rt;
-        "closed: {} nodes, the same: {}",
-        pool.len(),
-        closed == replaced
-    )?;
-    let open = doubled_term(&mut pool, hole)?;
-    println!(rt; "of the metavariable: {} nodes", pool.len())?;
-    let one = One { meta, term: set };
-    let made = instance(rt.alloc(), &mut pool, &one, open)?;
-    println!(rt;
-        "with its solution: {} nodes, the same: {}",
-        pool.len(),
-        made == replaced
-    )?;
-    let same = is_same(rt.alloc(), &mut pool, &one, open, closed)?;
-    println!(rt; "the same with its solution: {same}")?;
-    let other = is_same(rt.alloc(), &mut pool, &one, open, term)?;
-    println!(rt; "the same as that of the variable: {other}")?;
-    Ok(())
-}
-
-/// Terms doubled apart, whose binders have two names.
-#[tactic(auto, using(core_terms::specs::Growth::growth))]
-pub fn apart(rt: &HostRuntime) -> Result<(), Fault> {
-    let mut pool = TermPool::new(rt.alloc())?;
-    let set = pool.add(Node::Sort(0))?;
-    let flag = Flag::Explicit;
-    let first = pool.add(Node::Pi {
-        flag,
-        name: NameId::new(1),
-        dom: set,
-        cod: set,
-    })?;
-    let second = pool.add(Node::Pi {
-        flag,
-        name: NameId::new(2),
-        dom: set,
-        cod: set,
-    })?;
-    let first = doubled_term(&mut pool, first)?;
-    let second = doubled_term(&mut pool, second)?;
-    let same = same_term_of_none(rt.alloc(), &mut pool, first, second)?;
-    println!(rt;
-        "doubled apart: one id {}, the same term {same}",
-        first == second
-    )?;
-    Ok(())
 }
 
 fn same_term_of_none(
@@ -178,32 +122,223 @@ fn same_term_of_none(
 ) -> Result<bool, NoMemory>
     requires t { t < length pool.old.trees }
     requires u { u < length pool.old.trees }
-    ensures extends { Extends pool.old pool.new }
 {
     same_term(alloc, pool, &NoSolutions, t, u)
 }
 
+fn is_too_large(pool: &TermPool, t: TermId) -> Result<bool, NoMemory>
+    requires { t < length pool.now.trees }
+{
+    Ok(count_nodes(pool, t)? == Count::TooLarge)
+}
+
+fn print_size(rt: &HostRuntime, word: &str, pool: &TermPool, t: TermId) -> Result<(), Fault>
+    requires { t < length pool.now.trees }
+{
+    let is_too_large = is_too_large(pool, t)?;
+    println!(rt; "{word}: {} nodes, too large: {is_too_large}", pool.len())?;
+    Ok(())
+}
+
+fn print_nodes(rt: &HostRuntime, word: &str, pool: &TermPool) -> io::Result<()> {
+    println!(rt; "{word}: {} nodes", pool.len())
+}
+
+fn print_same(rt: &HostRuntime, word: &str, pool: &TermPool, same: bool) -> io::Result<()> {
+    println!(rt; "{word}: {} nodes, the same: {same}", pool.len())
+}
+
+/// By hand: the variable, the sort, which is the empty list too, and the metavariable are three nodes.
+/// Doubling makes 60 nodes. Raised it has 61 others; with the sort for the variable 60 others, which
+/// are those of the term under the sort and of the metavariable's term with its solution.
+pub fn doubled(rt: &HostRuntime) -> Result<(), Fault> {
+    let mut pool = TermPool::new(rt.alloc())?;
+    add_leaves(&mut pool)?;
+    print_doubled(rt, &mut pool)
+}
+
+#[tactic(auto, using(core_terms::specs::Growth::growth))]
+fn print_doubled(rt: &HostRuntime, pool: &mut TermPool) -> Result<(), Fault> {
+    let term = print_term(rt, pool)?;
+    let closed = print_changed(rt, pool, term)?;
+    let waiting = print_waiting(rt, pool)?;
+    print_instance(rt, pool, waiting, closed)?;
+    print_compared(rt, pool, "the same with its solution", waiting, closed)?;
+    print_compared(rt, pool, "the same as that of the variable", waiting, term)
+}
+
+/// The doubled variable.
+#[tactic(auto, using(core_terms::specs::Growth::growth))]
+fn print_term(rt: &HostRuntime, pool: &mut TermPool) -> Result<TermId, Fault>
+    ensures extends { Extends pool.old pool.new }
+    ensures within { IfOk result (λ r. r < length pool.new.trees) }
+{
+    let variable = pool.add(Node::Var(0))?;
+    let term = doubled_term(pool, variable)?;
+    print_size(rt, "doubled", pool, term)?;
+    Ok(term)
+}
+
+/// The term under the sort, after the other changes of it.
+#[tactic(auto, using(core_terms::specs::Growth::growth))]
+fn print_changed(rt: &HostRuntime, pool: &mut TermPool, term: TermId) -> Result<TermId, Fault>
+    requires { term < length pool.old.trees }
+    ensures extends { Extends pool.old pool.new }
+    ensures within { IfOk result (λ r. r < length pool.new.trees) }
+{
+    print_raised(rt, pool, term)?;
+    let replaced = print_replaced(rt, pool, term)?;
+    let closed = closed(rt.alloc(), pool, term)?;
+    print_same(rt, "closed", pool, closed == replaced)?;
+    Ok(closed)
+}
+
+fn print_raised(rt: &HostRuntime, pool: &mut TermPool, term: TermId) -> Result<(), Fault>
+    requires { term < length pool.old.trees }
+    ensures { Extends pool.old pool.new }
+{
+    shift(rt.alloc(), pool, term, 0, 7)?;
+    print_nodes(rt, "raised", pool)?;
+    Ok(())
+}
+
+/// The term with the sort for the variable.
+#[tactic(auto, using(core_terms::specs::Growth::growth))]
+fn print_replaced(rt: &HostRuntime, pool: &mut TermPool, term: TermId) -> Result<TermId, Fault>
+    requires { term < length pool.old.trees }
+    ensures { Extends pool.old pool.new }
+{
+    let set = pool.add(Node::Sort(0))?;
+    let replaced = subst(rt.alloc(), pool, term, 0, set)?;
+    print_nodes(rt, "replaced", pool)?;
+    Ok(replaced)
+}
+
+#[tactic(auto, using(core_terms::specs::Growth::growth))]
+fn closed(alloc: Global, pool: &mut TermPool, t: TermId) -> Result<TermId, NoMemory>
+    requires { t < length pool.old.trees }
+    ensures extends { Extends pool.old pool.new }
+    ensures within { IfOk result (λ r. r < length pool.new.trees) }
+{
+    let set = pool.add(Node::Sort(0))?;
+    under(alloc, pool, t, &[set])
+}
+
+/// The doubled metavariable.
+#[tactic(auto, using(core_terms::specs::Growth::growth))]
+fn print_waiting(rt: &HostRuntime, pool: &mut TermPool) -> Result<TermId, Fault>
+    ensures extends { Extends pool.old pool.new }
+    ensures within { IfOk result (λ r. r < length pool.new.trees) }
+{
+    let hole = hole(pool)?;
+    let waiting = doubled_term(pool, hole)?;
+    print_nodes(rt, "of the metavariable", pool)?;
+    Ok(waiting)
+}
+
+#[tactic(auto, using(core_terms::specs::Growth::growth))]
+fn print_instance(
+    rt: &HostRuntime,
+    pool: &mut TermPool,
+    waiting: TermId,
+    closed: TermId,
+) -> Result<(), Fault>
+    requires { waiting < length pool.old.trees }
+    ensures { Extends pool.old pool.new }
+{
+    let term = pool.add(Node::Sort(0))?;
+    let meta = MetaId::new(0);
+    let made = instance(rt.alloc(), pool, &One { meta, term }, waiting)?;
+    print_same(rt, "with its solution", pool, made == closed)?;
+    Ok(())
+}
+
+#[tactic(auto, using(core_terms::specs::Growth::growth))]
+fn print_compared(
+    rt: &HostRuntime,
+    pool: &mut TermPool,
+    word: &str,
+    t: TermId,
+    u: TermId,
+) -> Result<(), Fault>
+    requires t { t < length pool.old.trees }
+    requires u { u < length pool.old.trees }
+    ensures { Extends pool.old pool.new }
+{
+    let term = pool.add(Node::Sort(0))?;
+    let meta = MetaId::new(0);
+    let same = is_same(rt.alloc(), pool, &One { meta, term }, t, u)?;
+    println!(rt; "{word}: {same}")?;
+    Ok(())
+}
+
+/// Terms doubled apart, whose binders have two names.
+pub fn apart(rt: &HostRuntime) -> Result<(), Fault> {
+    let mut pool = TermPool::new(rt.alloc())?;
+    print_apart(rt, &mut pool)
+}
+
+#[tactic(auto, using(core_terms::specs::Growth::growth))]
+fn print_apart(rt: &HostRuntime, pool: &mut TermPool) -> Result<(), Fault> {
+    let first = doubled_type(pool, 1)?;
+    let second = doubled_type(pool, 2)?;
+    let same = same_term_of_none(rt.alloc(), pool, first, second)?;
+    println!(rt;
+        "doubled apart: one id {}, the same term {same}",
+        first == second
+    )?;
+    Ok(())
+}
+
+/// A function type whose binder has this name, doubled.
+#[tactic(auto, using(core_terms::specs::Growth::growth))]
+fn doubled_type(pool: &mut TermPool, name: u32) -> Result<TermId, NoMemory>
+    ensures extends { Extends pool.old pool.new }
+    ensures within { IfOk result (λ r. r < length pool.new.trees) }
+{
+    let set = pool.add(Node::Sort(0))?;
+    let ty = pool.add(Node::Pi {
+        flag: Flag::Explicit,
+        name: NameId::new(name),
+        dom: set,
+        cod: set,
+    })?;
+    doubled_term(pool, ty)
+}
+
 /// By hand: the chain over the variable makes a million nodes, and raised a million and one others; that
 /// over the metavariable a million, and with its solution a million others.
-#[tactic(auto, using(core_terms::specs::Growth::growth))]
 pub fn chain(rt: &HostRuntime) -> Result<(), Fault> {
     let mut pool = TermPool::new(rt.alloc())?;
+    add_leaves(&mut pool)?;
+    print_chain(rt, &mut pool)?;
+    print_waiting_chain(rt, &mut pool)
+}
+
+#[tactic(auto, using(core_terms::specs::Growth::growth))]
+fn print_chain(rt: &HostRuntime, pool: &mut TermPool) -> Result<(), Fault> {
     let variable = pool.add(Node::Var(0))?;
+    let term = chain_of(pool, variable, variable)?;
+    print_size(rt, "chain", pool, term)?;
+    print_raised(rt, pool, term)
+}
+
+#[tactic(auto, using(core_terms::specs::Growth::growth))]
+fn print_waiting_chain(rt: &HostRuntime, pool: &mut TermPool) -> Result<(), Fault> {
+    let hole = hole(pool)?;
     let set = pool.add(Node::Sort(0))?;
-    let args = pool.add_args(&[])?;
+    let waiting = chain_of(pool, set, hole)?;
+    print_nodes(rt, "of the metavariable", pool)?;
+    print_chain_instance(rt, pool, waiting)
+}
+
+#[tactic(auto, using(core_terms::specs::Growth::growth))]
+fn print_chain_instance(rt: &HostRuntime, pool: &mut TermPool, waiting: TermId) -> Result<(), Fault>
+    requires { waiting < length pool.old.trees }
+{
+    let term = pool.add(Node::Sort(0))?;
     let meta = MetaId::new(0);
-    let hole = pool.add(Node::Meta { meta, args })?;
-    let term = chain_of(&mut pool, variable, variable, 1_000_000)?;
-    println!(rt;
-        "chain: {} nodes, too large: {}",
-        pool.len(),
-        is_too_large(&pool, term)?
-    )?;
-    shift(rt.alloc(), &mut pool, term, 0, 7)?;
-    println!(rt; "raised: {} nodes", pool.len())?;
-    let open = chain_of(&mut pool, set, hole, 1_000_000)?;
-    println!(rt; "of the metavariable: {} nodes", pool.len())?;
-    instance(rt.alloc(), &mut pool, &One { meta, term: set }, open)?;
-    println!(rt; "with its solution: {} nodes", pool.len())?;
+    instance(rt.alloc(), pool, &One { meta, term }, waiting)?;
+    print_nodes(rt, "with its solution", pool)?;
     Ok(())
 }
