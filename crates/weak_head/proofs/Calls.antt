@@ -1,11 +1,10 @@
 -- One move of a call at a node of its tree, and of a term by what its spine has.
-use Rattle.std.specs.Prelude.{◌≡◌, ◌≢◌, ℕ, Bool, true, false, eqb, cond, ◌+◌, ◌<◌, List, [], ◌∷◌, ◌++◌, length, map, reverse, drop, slice_get, Option, Some, None, option_map, refl}
+use Rattle.std.specs.Prelude.{◌≡◌, ℕ, true, false, eqb, cond, ◌+◌, List, [], ◌∷◌, length, reverse, drop, slice_get, Option, Some, None, option_map, refl}
 use Rattle.std.proofs.Common.{sym, ap, ap₂, ◌∙◌, subst}
-use Rattle.core_rules.specs.declared.Flag.{Flag}
-use Rattle.core_rules.specs.Term.{Term, Terms, Lam, App, Con}
-use Rattle.core_rules.specs.Signature.{Tree, Intro, Cosplit, Branch, CoBranches, NoField, OnField, co_branch, ConBranches, NoCon, Refuted, Goes, con_branch, Signature}
+use Rattle.core_rules.specs.Term.{Term, App}
+use Rattle.core_rules.specs.Signature.{Tree, Cosplit, Branch, CoBranches, NoField, OnField, co_branch, ConBranches, NoCon, Refuted, Goes, con_branch, Signature}
 use Rattle.core_rules.specs.Mapped.{tree_map, co_branches_map, AllTree, AllCoBranches, AllConBranches}
-use Rattle.core_rules.specs.Elimination.{Elim, Arg, Field}
+use Rattle.core_rules.specs.Elimination.{Elim, Field}
 use Rattle.core_rules.specs.Heads.{Solutions, Form}
 use Rattle.core_rules.specs.BoundedLaws.{next_node, at_field}
 use Rattle.core_rules.proofs.Heads.OneAnswer.{one_some}
@@ -17,7 +16,7 @@ use Rattle.core_terms.specs.Pool.{Pool, Extends, tree, node_tree}
 use Rattle.core_terms.specs.Growth.{Extends-tree}
 use Rattle.weak_head.specs.Answers.{elim_node}
 use Rattle.weak_head.specs.Elims.{elim_in, spine_in, Below}
-use Rattle.weak_head.specs.Pending.{AtTerm, AtTree, AtAnswer, AtStep, Frame, Run, On, by_node, move}
+use Rattle.weak_head.specs.Pending.{AtTerm, AtTree, AtAnswer, Frame, Run, On, by_node, move}
 use Rattle.weak_head.proofs.Spines.{elim_at, drop_next, drop_end}
 use Rattle.weak_head.proofs.Moves.{term_as}
 

@@ -1,7 +1,6 @@
 -- Environments of trees: what is put in the place of a variable, what a branch keeps, and what stays as the pool grows.
-use Rattle.std.specs.Prelude.{◌≡◌, ℕ, zero, suc, ◌+◌, ◌-◌, ◌<◌, ◌≤◌, List, [], ◌∷◌, ◌++◌, length, map, reverse, take, drop, get_or, slice_get, Option, Some, None, refl}
-use Rattle.std.specs.List.{AllByRecursion}
-use Rattle.std.proofs.Common.{arith, sym, ap, ap₂, ◌∙◌, subst, ◌⊎◌, ⊎_elim}
+use Rattle.std.specs.Prelude.{◌≡◌, ℕ, ◌+◌, ◌-◌, ◌<◌, ◌≤◌, List, [], ◌∷◌, ◌++◌, length, map, reverse, take, drop, get_or}
+use Rattle.std.proofs.Common.{arith, sym, ap, ap₂, ◌∙◌, ⊎_elim}
 use Rattle.std.proofs.lemmas.List.{reverse-append, take-append-drop, take_at, take_all, take-map, map-append, length-reverse, length-drop, append_assoc, drop_more, take_rest, take_more}
 use Rattle.std.proofs.lemmas.Bool.{cases_lt}
 use Rattle.core_rules.specs.Term.{Term}
@@ -10,7 +9,7 @@ use Rattle.core_rules.specs.Run.{spread}
 use Rattle.core_terms.specs.Pool.{Pool, tree, Extends}
 use Rattle.core_terms.specs.Growth.{Extends-tree, Extends-length}
 use Rattle.el_base.proofs.Lists.{map-reverse, reverse_push}
-use Rattle.el_base.proofs.Throughout.{map-same, all-reverse, all-weaker, all-append, all-parts}
+use Rattle.el_base.proofs.Throughout.{map-same, all-reverse, all-weaker}
 use Rattle.weak_head.specs.Elims.{env_in}
 use Rattle.weak_head.specs.States.{Ids}
 use Rattle.weak_head.proofs.Spines.{map-drop, drop_reverse}

@@ -1,16 +1,15 @@
 -- What a run on its way has still to come to, and that each move keeps it.
-use Rattle.std.proofs.Common.{◌≡◌, ℕ, Bool, true, false, cond, zero, suc, ◌+◌, ◌<◌, ◌≤◌, List, [], ◌∷◌, Option, Some, None, refl, sym, ap, ◌∙◌, subst, arith, add_assoc}
+use Rattle.std.proofs.Common.{◌≡◌, ℕ, true, false, cond, zero, suc, ◌+◌, ◌≤◌, List, [], ◌∷◌, Some, None, refl, sym, ap, ◌∙◌, subst, arith, add_assoc}
 use Rattle.core_rules.specs.Term.{Term, Terms, Var, Sort, Pi, Lam, App, Def, Fam, Con, Proj, Meta}
-use Rattle.core_rules.specs.Substitution.{subst as subst_term, value_at, put_solution}
-use Rattle.core_rules.specs.Signature.{Branch, Tree, ConBranches, Signature, tree_of}
+use Rattle.core_rules.specs.Substitution.{subst as subst_term, put_solution}
+use Rattle.core_rules.specs.Signature.{Tree, Signature, tree_of}
 use Rattle.core_rules.specs.Elimination.{Elim, Arg, Field}
-use Rattle.core_rules.specs.Run.{spread, kept}
-use Rattle.core_rules.specs.Heads.{Solutions, Answer, Form, Blocked, taken, Choice, Enters, Stays, Waits, choice, Heads, Follows, After, enters, replaced, HeadOf, Within, Out}
+use Rattle.core_rules.specs.Heads.{Solutions, Answer, Form, taken, Choice, Enters, Stays, Waits, choice, Heads, Follows, After, replaced, HeadOf, Within, Out}
 use Rattle.core_rules.specs.BoundedLaws.{Next, Ends, Becomes, Calls, next, HeadsBy, NextNode, Unfolds, GoesOn, Asks, StaysThere, next_node, FollowsBy, AfterBy, at_constructor, at_function, at_metavariable}
 use Rattle.core_rules.specs.Bounded.{same_flag}
 use Rattle.core_rules.proofs.Heads.Next.{heads_by_next, follows_by_next, after_by_next}
 use Rattle.weak_head.specs.Meanings.{Meaning, Leads, Means, Resumes, Whole, RunMeans}
-use Rattle.weak_head.specs.Pending.{Now, AtTerm, AtTree, AtAnswer, AtStep, Frame, Run, On, Ended, Due, by_next, by_node, by_choice, move_back, move, Comes, here, by}
+use Rattle.weak_head.specs.Pending.{Now, AtTerm, AtTree, AtAnswer, AtStep, Frame, by_next, by_node, by_choice, move, Comes, here, by}
 
 pub leads_zero : {M : Meaning} {N : Meaning} → ((w : Answer) (n : ℕ) → N w n → M w n) → ((w : Answer) (n : ℕ) → M w n → N w n) → Leads M 0 N
 leads_zero {M} {N} f g = record {

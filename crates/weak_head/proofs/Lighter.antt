@@ -1,22 +1,21 @@
 -- A number that falls with each move that takes no step. It counts with solutions put in.
-use Rattle.std.specs.Prelude.{◌≡◌, ℕ, zero, suc, ◌+◌, ◌-◌, ◌*◌, ◌<◌, ◌≤◌, max, Bool, true, false, cond, List, [], ◌∷◌, Option, Some, None, refl}
+use Rattle.std.specs.Prelude.{◌≡◌, ℕ, zero, suc, ◌+◌, ◌-◌, ◌*◌, ◌<◌, ◌≤◌, max, true, false, cond, List, [], ◌∷◌, Option, Some, None, refl}
 use Rattle.std.proofs.Common.{arith, sym, ap, ◌∙◌, subst as transport}
 use Rattle.std.specs.Option.{option_map_or}
-use Rattle.std.specs.List.{AllByRecursion}
-use Rattle.core_rules.specs.Term.{Term, Terms, Var, Sort, Pi, Lam, App, Def, Fam, Con, Proj, Meta}
-use Rattle.core_rules.specs.Substitution.{value_at, put_solution, replace, subst}
-use Rattle.core_rules.specs.Signature.{Branch, Tree, Leaf, Intro, Cosplit, Split, RecordSplit, Absurd, ConBranches, Signature, tree_of, co_branch}
+use Rattle.core_rules.specs.Term.{Term, Var, Sort, Pi, Lam, App, Def, Fam, Con, Proj, Meta}
+use Rattle.core_rules.specs.Substitution.{value_at, subst}
+use Rattle.core_rules.specs.Signature.{Tree, Leaf, Intro, Cosplit, Split, RecordSplit, Absurd, Signature, tree_of, co_branch}
 use Rattle.core_rules.specs.Elimination.{Elim, Arg, Field, elims, projections}
 use Rattle.core_rules.specs.Run.{ConApp, con_app, spread, kept}
 use Rattle.core_rules.proofs.Heads.OneAnswer.{one_some}
 use Rattle.core_rules.specs.Heads.{Solutions, Answer, Form, Blocked, taken, Choice, Enters, Stays, Waits, choice}
 use Rattle.core_rules.specs.Bounded.{same_flag}
-use Rattle.core_rules.specs.BoundedLaws.{Next, Ends, Becomes, Calls, next, NextNode, at_field, next_node, at_constructor, at_function, at_metavariable, IsFull}
+use Rattle.core_rules.specs.BoundedLaws.{Ends, Becomes, next, at_field, next_node, at_constructor, at_function, at_metavariable, IsFull}
 use Rattle.core_rules.proofs.Heads.Resolve.{NotSolved}
 use Rattle.core_rules.proofs.Heads.Replaced.{put_image}
 use Rattle.core_rules.proofs.Heads.Sound.{entered, by_full_con}
-use Rattle.core_rules.proofs.Heads.Weight.{tree_size, co_size, con_size, co_branch_size, con_branch_size, weight, full_weight, spine_weight, at_spine, answer_weight, Light, light_value, light_more, light_spread, light_kept, light_projections}
-use Rattle.weak_head.specs.Pending.{Now, AtTerm, AtTree, AtAnswer, AtStep, Frame, Run, On, Ended, Due, by_next, by_node, by_choice, move_back, move, Comes, here, by}
+use Rattle.core_rules.proofs.Heads.Weight.{tree_size, con_size, co_branch_size, con_branch_size, weight, full_weight, spine_weight, at_spine, answer_weight, Light, light_value, light_more, light_spread, light_kept, light_projections}
+use Rattle.weak_head.specs.Pending.{Now, AtTerm, AtTree, AtAnswer, AtStep, Frame, Run, On, Ended, Due, by_next, by_node, by_choice, move, Comes, here, by}
 
 -- more than all that can be done without a step where the weight is n
 abbrev pub turns : ℕ → ℕ

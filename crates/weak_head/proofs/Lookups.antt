@@ -1,5 +1,5 @@
 -- What a signature over ids says of constructors and fields, which is what the signature over trees says.
-use Rattle.std.specs.Prelude.{◌≡◌, ◌≢◌, ℕ, zero, suc, ◌+◌, ◌<◌, ◌≤◌, Bool, true, false, ◌&&◌, eqb, cond, List, [], ◌∷◌, ◌++◌, length, map, sum, take, get_or, slice_get, Option, Some, None, option_map, option_and_then, refl}
+use Rattle.std.specs.Prelude.{◌≡◌, ◌≢◌, ℕ, zero, suc, ◌+◌, ◌<◌, ◌≤◌, Bool, true, false, ◌&&◌, eqb, cond, List, [], ◌∷◌, length, map, sum, take, get_or, slice_get, Option, Some, None, option_map, option_and_then, refl}
 use Rattle.std.specs.Option.{option_map_or}
 use Rattle.std.proofs.Common.{arith, sym, ap, ap₂, ◌∙◌, subst}
 use Rattle.std.proofs.lemmas.Grind.{common_steps}
@@ -8,7 +8,7 @@ use Rattle.std.proofs.lemmas.Option.{slice_get_past}
 use Rattle.std.proofs.lemmas.List.Sums.{sum_by-cons}
 use Rattle.core_rules.specs.Term.{Term, Proj}
 use Rattle.core_rules.specs.Elimination.{projections}
-use Rattle.core_rules.specs.Signature.{Tree, Decl, Postulate, Family, Open, Function, defs, decl_tree, ConDecl, FamDecl, Signature, numbers, places, ids_of, fams, con_counts, field_counts, con_place, field_place, fam_decl, con_decl, fields_of, tree_of}
+use Rattle.core_rules.specs.Signature.{Tree, Decl, Postulate, Family, Open, Function, defs, decl_tree, ConDecl, FamDecl, Signature, numbers, places, fams, con_counts, field_counts, con_place, field_place, fam_decl, con_decl, fields_of, tree_of}
 use Rattle.core_rules.specs.Mapped.{con_map, entry_map, tree_map, AllDecl, AllTree}
 use Rattle.core_rules.specs.Run.{takes}
 use Rattle.core_rules.specs.Heads.{argument_of, is_first}

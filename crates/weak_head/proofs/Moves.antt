@@ -1,19 +1,17 @@
 -- One move, on what the code has: of a term, of a call at a node, and back at a split.
-use Rattle.std.specs.Prelude.{◌≡◌, ℕ, zero, suc, ◌+◌, ◌<◌, ◌≤◌, Bool, true, false, cond, List, [], ◌∷◌, ◌++◌, length, map, reverse, is_some, take, drop, slice_get, Option, Some, None, option_map, option_and_then, refl}
-use Rattle.std.proofs.Common.{arith, sym, ap, ap₂, ◌∙◌, subst}
+use Rattle.std.specs.Prelude.{◌≡◌, ℕ, zero, suc, ◌+◌, ◌<◌, true, false, cond, List, [], ◌∷◌, ◌++◌, length, reverse, is_some, take, drop, slice_get, Option, Some, None, option_map, option_and_then, refl}
+use Rattle.std.proofs.Common.{arith, sym, ap, ap₂, ◌∙◌}
 use Rattle.std.proofs.lemmas.List.{append_assoc, append-nil, length-take, length-map, length-reverse}
 use Rattle.std.proofs.lemmas.Option.{slice_get_within}
 use Rattle.core_rules.specs.declared.Flag.{Flag}
-use Rattle.core_rules.specs.declared.Flag.TheVariants.{Explicit, Implicit}
 use Rattle.core_rules.specs.Term.{Term, Terms, Var, Sort, Pi, Lam, App, Def, Fam, Con, Proj, Meta}
 use Rattle.core_rules.specs.Substitution.{subst as subst_term}
 use Rattle.core_rules.specs.Signature.{Tree, Branch, ConBranches, Signature, tree_of, con_branch}
 use Rattle.core_rules.specs.Elimination.{Elim, Arg, Field, elims}
 use Rattle.core_rules.specs.Run.{ConApp, con_app, takes, full_con}
-use Rattle.core_rules.specs.Heads.{Solutions, Answer, Form, Blocked, Taken, taken, argument_of, Choice, Enters, Stays, Waits, choice, branch_at, enter}
+use Rattle.core_rules.specs.Heads.{Solutions, Form, Blocked, Taken, taken, argument_of, choice, branch_at, enter}
 use Rattle.core_rules.specs.Bounded.{same_flag}
-use Rattle.core_rules.specs.BoundedLaws.{Next, Ends, Becomes, Calls, at_constructor, at_function, at_metavariable}
-use Rattle.core_rules.proofs.Heads.Next.{same_flag-refl}
+use Rattle.core_rules.specs.BoundedLaws.{Ends, Becomes, at_constructor, at_function, at_metavariable}
 use Rattle.core_rules.specs.Mapped.{con_branches_map}
 use Rattle.core_rules.proofs.Heads.Mapped.{goes_map, con_branch-map}
 use Rattle.core_terms.specs.Pool.{node_tree}
@@ -23,7 +21,7 @@ use Rattle.weak_head.specs.declared.elim.Elim as E
 use Rattle.weak_head.specs.declared.state.Applied as A
 use Rattle.weak_head.specs.Elims.{elim_in, spine_in, AreArgs, arg_of, args_of, IsFieldAt, IsFirstField}
 use Rattle.weak_head.specs.States.{answer_in}
-use Rattle.weak_head.specs.Pending.{Now, AtTerm, AtTree, AtAnswer, AtStep, Frame, Run, On, by_next, by_choice, move, Rests, IsBare}
+use Rattle.weak_head.specs.Pending.{AtTerm, AtAnswer, AtStep, Frame, Run, On, by_next, by_choice, move, IsBare}
 
 -- ---- the projection of a constructor
 

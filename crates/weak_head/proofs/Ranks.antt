@@ -1,6 +1,6 @@
 -- Acyclic solutions that stand among n terms have ranks up to n, so that solutions put in n deep are full.
-use Rattle.std.specs.Prelude.{◌≡◌, ℕ, zero, suc, ◌+◌, ◌-◌, ◌<◌, ◌≤◌, max, Bool, true, false, ltb, cond, List, [], ◌∷◌, length, get_or, Option, Some, None, option_map, refl}
-use Rattle.std.proofs.Common.{arith, sym, ap, ◌∙◌, subst as transport}
+use Rattle.std.specs.Prelude.{◌≡◌, ℕ, zero, suc, ◌+◌, ◌<◌, ◌≤◌, max, true, false, ltb, cond, List, [], ◌∷◌, length, get_or, Option, Some, None, option_map, refl}
+use Rattle.std.proofs.Common.{arith, sym, ap, ◌∙◌}
 use Rattle.std.proofs.lemmas.Grind.{common_steps}
 use Rattle.core_rules.specs.Term.{Term, Terms, Var, Sort, Pi, Lam, App, Def, Fam, Con, Proj, Meta, End, And, AllMetas, AllMetasIn}
 use Rattle.core_rules.specs.Substitution.{replace, instantiate}

@@ -1,6 +1,6 @@
 -- A solved metavariable at the head of a term is replaced.
-use Rattle.std.specs.Prelude.{◌≡◌, ℕ, ◌<◌, List, [], ◌∷◌, length, map, reverse, Option, Some, None, option_map, refl}
-use Rattle.std.proofs.Common.{arith, sym, ap, ap₂, ◌∙◌, subst, subst₂}
+use Rattle.std.specs.Prelude.{◌≡◌, ℕ, ◌<◌, List, [], ◌∷◌, map, reverse, Option, Some, None, option_map, refl}
+use Rattle.std.proofs.Common.{sym, ap, ap₂, ◌∙◌, subst, subst₂}
 use Rattle.core_rules.specs.Term.{Term, Terms, Meta, from_list, to_list, env_of}
 use Rattle.core_rules.specs.Substitution.{under, put_solution}
 use Rattle.core_rules.specs.InScope.{IsAcyclic}

@@ -1,8 +1,7 @@
 -- The eliminations of a spine, and their arguments.
 use Rattle.std.specs.Prelude.{◌≡◌, ℕ, zero, suc, ◌+◌, ◌-◌, ◌<◌, ◌≤◌, List, [], ◌∷◌, ◌++◌, length, map, reverse, take, drop, slice_get, Option, Some, None, option_map, refl}
-use Rattle.std.specs.List.{AllByRecursion}
-use Rattle.std.proofs.Common.{arith, sym, ap, ap₂, ◌∙◌, subst, ◌⊎◌, ⊎_elim}
-use Rattle.std.proofs.lemmas.List.{reverse-append, take-append-drop, drop_at, drop_all, take_all, length-reverse, length-drop, length-take, map-append, append-nil}
+use Rattle.std.proofs.Common.{arith, sym, ap, ◌∙◌, subst, ⊎_elim}
+use Rattle.std.proofs.lemmas.List.{reverse-append, take-append-drop, drop_at, drop_all, length-reverse, length-drop, map-append, append-nil}
 use Rattle.std.proofs.lemmas.Option.{slice_get-map, slice_get_within}
 use Rattle.std.proofs.lemmas.Bool.{cases_lt}
 use Rattle.core_rules.specs.declared.Flag.{Flag}

@@ -1,11 +1,10 @@
 -- What states of a run stand for stays as the pool grows.
-use Rattle.std.specs.Prelude.{◌≡◌, ℕ, zero, suc, ◌+◌, ◌<◌, ◌≤◌, List, [], ◌∷◌, ◌++◌, length, map, reverse, drop, Option, Some, None, refl}
-use Rattle.std.specs.List.{AllByRecursion}
-use Rattle.std.proofs.Common.{arith, sym, ap, ap₂, ◌∙◌}
+use Rattle.std.specs.Prelude.{◌≡◌, ℕ, ◌<◌, List, [], ◌∷◌, ◌++◌, length, map, reverse, drop, refl}
+use Rattle.std.proofs.Common.{arith, ap}
 use Rattle.core_rules.specs.Term.{Term, Sort}
-use Rattle.core_rules.specs.Signature.{Tree, Leaf, Split, ConBranches, NoCon, Decl, Postulate, Family, Open, Function, Signature, decl_tree}
-use Rattle.core_rules.specs.Mapped.{tree_map, con_branches_map, AllTree, AllConBranches, signature_map, AllDecl}
-use Rattle.core_rules.specs.Elimination.{Elim, Arg}
+use Rattle.core_rules.specs.Signature.{Tree, Leaf, Split, ConBranches, NoCon, Decl, Postulate, Family, Open, Function}
+use Rattle.core_rules.specs.Mapped.{tree_map, con_branches_map, AllTree, AllConBranches}
+use Rattle.core_rules.specs.Elimination.{Arg}
 use Rattle.core_terms.specs.TreeView.{con_of}
 use Rattle.core_terms.specs.Pool.{Pool, tree, Extends}
 use Rattle.core_terms.specs.Growth.{Extends-tree, Extends-length}
@@ -17,13 +16,8 @@ use Rattle.weak_head.specs.declared.elim.Elim.TheVariants as V
 use Rattle.weak_head.specs.declared.state.Applied as A
 use Rattle.weak_head.specs.declared.state.Call as C
 use Rattle.weak_head.specs.declared.state.Frame as F
-use Rattle.weak_head.specs.declared.state.State as S
-use Rattle.weak_head.specs.declared.state.State.TheVariants as SV
-use Rattle.weak_head.specs.declared.state.Due as D
-use Rattle.weak_head.specs.declared.state.Due.TheVariants as DV
-use Rattle.weak_head.specs.Elims.{elim_in, spine_in, env_in, Below, AllBelow}
-use Rattle.weak_head.specs.Pending.{Frame}
-use Rattle.weak_head.specs.States.{Ids, frame_in, frames_in, AppliedBelow, CallBelow, DueBelow, StateBelow, FrameBelow, FramesBelow}
+use Rattle.weak_head.specs.Elims.{elim_in, spine_in, Below, AllBelow}
+use Rattle.weak_head.specs.States.{frame_in, frames_in, AppliedBelow, CallBelow, FrameBelow, FramesBelow}
 use Rattle.weak_head.proofs.Environments.{ids_more, env_stays}
 
 -- the tree of the first function, or another

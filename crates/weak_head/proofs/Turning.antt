@@ -1,22 +1,21 @@
 -- A turn of the loop: it keeps what is to come, it is lighter, and heads stay bare.
-use Rattle.std.specs.Prelude.{◌≡◌, ℕ, zero, suc, ◌+◌, ◌<◌, ◌≤◌, Bool, true, false, cond, List, [], ◌∷◌, length, Option, Some, None, refl}
-use Rattle.std.specs.List.{AllByRecursion}
-use Rattle.std.proofs.Common.{arith, sym, ap, ap₂, ◌∙◌, subst, subst₂}
-use Rattle.core_rules.specs.Term.{Term, Terms, Var, Sort, Pi, Lam, App, Def, Fam, Con, Proj, Meta}
+use Rattle.std.specs.Prelude.{◌≡◌, ℕ, suc, ◌+◌, ◌<◌, ◌≤◌, true, false, cond, List, [], ◌∷◌, length, Option, Some, None, refl}
+use Rattle.std.proofs.Common.{arith, sym, ap, ◌∙◌, subst, subst₂}
+use Rattle.core_rules.specs.Term.{Term, Var, Sort, Pi, Lam, App, Def, Fam, Con, Proj, Meta}
 use Rattle.core_rules.specs.Substitution.{subst as subst_term}
 use Rattle.core_rules.specs.Signature.{Tree, Leaf, Intro, Cosplit, Split, RecordSplit, Absurd, Signature, tree_of, co_branch}
 use Rattle.core_rules.specs.Elimination.{Elim, Arg, Field}
 use Rattle.core_rules.specs.InScope.{IsAcyclic}
-use Rattle.core_rules.specs.Heads.{Solutions, Answer, Form, Blocked, Heads, taken, Choice, Enters, Stays, Waits, choice, HeadOf, Within, Out}
+use Rattle.core_rules.specs.Heads.{Solutions, Answer, Form, Heads, taken, Choice, Enters, Stays, Waits, choice, HeadOf, Within, Out}
 use Rattle.core_rules.specs.Bounded.{same_flag}
 use Rattle.core_rules.specs.BoundedLaws.{Becomes, Ends, next, next_node, at_field, at_constructor, at_function, at_metavariable, IsFull}
 use Rattle.core_rules.proofs.Heads.Resolve.{NotSolved}
-use Rattle.core_terms.specs.Pool.{Pool, Extends, tree}
+use Rattle.core_terms.specs.Pool.{Pool, Extends}
 use Rattle.core_terms.specs.Signature.{Stands, signature_in}
 use Rattle.core_terms.specs.Solutions.{AreIn, solved_in, solved_in-stays}
 use Rattle.core_terms.proofs.SignatureGrowth.{signature_in-extends}
-use Rattle.weak_head.specs.Meanings.{Meaning, Leads, Means, Whole, RunMeans, Settles}
-use Rattle.weak_head.specs.Pending.{Now, AtTerm, AtTree, AtAnswer, AtStep, Frame, Run, On, Ended, Due, by_next, by_node, by_choice, move, Rests, IsResolved, IsTurn, IsBare, AnswerBare, NowBare, FramesBare, RunBare}
+use Rattle.weak_head.specs.Meanings.{Leads, Means, Whole, RunMeans, Settles}
+use Rattle.weak_head.specs.Pending.{Now, AtTerm, AtTree, AtAnswer, AtStep, Frame, Run, Ended, Due, by_next, by_node, by_choice, move, Rests, IsTurn, IsBare, NowBare, FramesBare, RunBare}
 use Rattle.weak_head.proofs.Leads.{leads_on, whole_leads, move_leads, comes_leads, ends, runs_out, goes_on}
 use Rattle.weak_head.proofs.Lighter.{run_turns, now_turns, frames_turns, turns, move_lighter, comes_weight}
 use Rattle.weak_head.proofs.Ranks.{put_in, full_among}

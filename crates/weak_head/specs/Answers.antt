@@ -1,8 +1,7 @@
 -- When an answer in code is the bounded head form of a term.
-use Rattle.std.specs.Prelude.{◌≡◌, ℕ, ◌<◌, List, length, Option, Some, None}
+use Rattle.std.specs.Prelude.{◌≡◌, ℕ, length, Option, Some, None}
 use Rattle.core_rules.specs.Term.{Term}
 use Rattle.core_rules.specs.Signature.{Signature}
-use Rattle.core_rules.specs.Elimination.{Elim, elims}
 use Rattle.core_rules.specs.Heads.{Solutions, Answer, Form, Blocked, Within, Out, HeadOf}
 use Rattle.core_rules.specs.BoundedLaws.{shown}
 use Rattle.core_terms.specs.Pool.{Pool, StandsFor, tree}

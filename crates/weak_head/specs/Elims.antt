@@ -1,5 +1,5 @@
 -- What eliminations and environments in code are to the rules.
-use Rattle.std.specs.Prelude.{◌≡◌, ℕ, ◌<◌, List, [], ◌∷◌, length, map, reverse, take, slice_get, Option, Some, None}
+use Rattle.std.specs.Prelude.{◌≡◌, ℕ, ◌<◌, List, [], ◌∷◌, map, reverse, take, slice_get, Option, Some, None}
 use Rattle.std.specs.List.{AllByRecursion}
 use Rattle.core_rules.specs.Term.{Term}
 use Rattle.core_rules.specs.Elimination.{Elim, Arg, Field}

@@ -1,12 +1,12 @@
 -- A run towards a head form that is on its way: what is looked at now, and the splits that wait for it.
-use Rattle.std.specs.Prelude.{◌≡◌, ℕ, ◌+◌, List, [], ◌∷◌, Option, Some, None, zero, suc}
+use Rattle.std.specs.Prelude.{◌≡◌, ℕ, List, [], ◌∷◌, Some, None, zero, suc}
 use Rattle.std.specs.List.{AllByRecursion}
 use Rattle.core_rules.specs.Term.{Term, Terms, Var, Sort, Pi, Lam, App, Def, Fam, Con, Proj, Meta}
 use Rattle.core_rules.specs.Substitution.{value_at, put_solution}
-use Rattle.core_rules.specs.Signature.{Branch, Tree, ConBranches, Signature}
+use Rattle.core_rules.specs.Signature.{Tree, ConBranches, Signature}
 use Rattle.core_rules.specs.Elimination.{Elim}
 use Rattle.core_rules.specs.Run.{spread, kept}
-use Rattle.core_rules.specs.Heads.{Solutions, Answer, Form, Blocked, Choice, Enters, Stays, Waits, choice, Heads, Follows, After}
+use Rattle.core_rules.specs.Heads.{Solutions, Answer, Form, Blocked, Choice, Enters, Stays, Waits, choice}
 use Rattle.core_rules.specs.BoundedLaws.{Next, Ends, Becomes, Calls, next, NextNode, Unfolds, GoesOn, Asks, StaysThere, next_node}
 
 -- a term under eliminations, a call at a node of its tree, an answer, or a term to which one step leads

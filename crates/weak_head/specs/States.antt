@@ -1,11 +1,10 @@
 -- What the states of a run in code are to the rules.
-use Rattle.std.specs.Prelude.{◌≡◌, ℕ, ◌<◌, List, [], ◌∷◌, length, map, reverse, drop, Option, Some, None}
+use Rattle.std.specs.Prelude.{ℕ, ◌<◌, List, [], ◌∷◌, map, reverse, drop, Option, Some, None}
 use Rattle.std.specs.List.{AllByRecursion}
 use Rattle.core_rules.specs.Term.{Term}
 use Rattle.core_rules.specs.Substitution.{subst, under}
 use Rattle.core_rules.specs.Signature.{Tree}
 use Rattle.core_rules.specs.Mapped.{tree_map, con_branches_map, AllTree, AllConBranches}
-use Rattle.core_rules.specs.Elimination.{Elim, elims}
 use Rattle.core_rules.specs.Heads.{Answer, Form, Blocked}
 use Rattle.core_terms.specs.TreeView.{con_of}
 use Rattle.weak_head.specs.Elims.{spine_in, env_in, AllBelow}

@@ -1,5 +1,4 @@
-use Rattle.std.proofs.Common.{◌≡◌, ℕ, ◌<◌, length, Option, Some, None, map, drop, sym, ap, ap₂, ◌∙◌, refl, subst, arith, true, false}
-use Rattle.core_rules.specs.Term.{Con}
+use Rattle.std.proofs.Common.{◌≡◌, ◌<◌, length, Some, None, map, drop, sym, ap, ap₂, ◌∙◌, subst, true, false}
 use Rattle.core_rules.specs.Substitution.{value_at}
 use Rattle.core_rules.specs.Mapped.{branch_map, tree_map}
 use Rattle.core_rules.specs.Run.{takes, spread}

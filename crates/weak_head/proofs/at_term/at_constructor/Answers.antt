@@ -1,8 +1,7 @@
-use Rattle.std.proofs.Common.{◌≡◌, ℕ, ◌+◌, [], Some, None, take, drop, slice_get, sym, ap, ◌∙◌, refl}
-use Rattle.core_rules.specs.Term.{Term}
+use Rattle.std.proofs.Common.{[], Some, None, take, sym, ap, ◌∙◌, refl}
 use Rattle.core_terms.specs.Pool.{tree}
 use Rattle.core_terms.specs.Signature.{signature_in}
-use Rattle.weak_head.specs.Elims.{arg_of, args_of, spine_in}
+use Rattle.weak_head.specs.Elims.{args_of, spine_in}
 use Rattle.weak_head.specs.Pending.{AtStep, On}
 use Rattle.weak_head.proofs.Moves.{taking, taken_none, taken_at, length_before, args_place, term_as, con_as}
 use Rattle.weak_head.proofs.Calls.{form_as}

@@ -1,4 +1,4 @@
-use Rattle.std.proofs.Common.{◌≡◌, Some, drop, sym, ap, ◌∙◌, refl}
+use Rattle.std.proofs.Common.{Some, drop, sym, ap, ◌∙◌, refl}
 use Rattle.core_rules.specs.Substitution.{subst as subst_term}
 use Rattle.weak_head.specs.declared.elim.Elim.TheVariants as V
 use Rattle.weak_head.specs.Elims.{spine_in}

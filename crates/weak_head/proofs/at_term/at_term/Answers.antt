@@ -1,4 +1,4 @@
-use Rattle.std.proofs.Common.{◌≡◌, ◌<◌, [], length, Some, None, sym, ap, ◌∙◌, refl, subst, arith}
+use Rattle.std.proofs.Common.{◌≡◌, [], length, Some, None, sym, ap, ◌∙◌, refl, subst, arith}
 use Rattle.core_rules.specs.Term.{Def}
 use Rattle.core_rules.specs.Mapped.{tree_map}
 use Rattle.core_terms.specs.Pool.{tree, args}

@@ -1,4 +1,4 @@
-use Rattle.std.proofs.Common.{◌≡◌, ◌<◌, ◌+◌, Some, None, drop, sym, ap, ◌∙◌, refl}
+use Rattle.std.proofs.Common.{◌<◌, ◌+◌, Some, drop, sym, ap, ◌∙◌, refl}
 use Rattle.core_rules.specs.Mapped.{co_branches_map, tree_map}
 use Rattle.core_rules.specs.Signature.{Cosplit}
 use Rattle.core_terms.specs.TreeView.{co_of}

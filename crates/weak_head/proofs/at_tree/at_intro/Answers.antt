@@ -1,4 +1,4 @@
-use Rattle.std.proofs.Common.{◌≡◌, ℕ, ◌<◌, ◌+◌, Some, drop, sym, ap, ◌∙◌, refl, subst}
+use Rattle.std.proofs.Common.{◌<◌, ◌+◌, Some, drop, sym, ap, ◌∙◌, refl, subst}
 use Rattle.core_rules.specs.Mapped.{tree_map}
 use Rattle.core_rules.specs.Signature.{Intro}
 use Rattle.el_base.proofs.Throughout.{all-push}

@@ -7,9 +7,9 @@ use Rattle.core_terms.specs.TreeView.{step_of, co_of, con_of}
 use Rattle.core_terms.specs.Pool.{tree}
 use Rattle.core_terms.specs.Signature.{signature_in}
 use Rattle.core_terms.specs.Growth.{Extends-trans, Extends-tree}
-use Rattle.weak_head.specs.Elims.{spine_in, env_in}
+use Rattle.weak_head.specs.Elims.{env_in}
 use Rattle.weak_head.specs.Pending.{AtTerm, AtTree, AtStep, On, move}
-use Rattle.weak_head.specs.States.{Ids, call_in, frame_in}
+use Rattle.weak_head.specs.States.{Ids, call_in}
 use Rattle.weak_head.proofs.Environments.{ids_more, env_stays}
 use Rattle.weak_head.proofs.Lookups.{projections_in}
 use Rattle.weak_head.proofs.Stays.{spine_stays, tree_stays, tree_more, branches_more, applied_more, call_more, frame_stays}

@@ -1,8 +1,8 @@
-use Rattle.std.proofs.Common.{◌≡◌, ◌+◌, length, Some, drop, sym, ap, ap₂, ◌∙◌, arith}
-use Rattle.core_rules.specs.Elimination.{elims, elim_by}
+use Rattle.std.proofs.Common.{◌+◌, length, drop, sym, ap, ◌∙◌, arith}
+use Rattle.core_rules.specs.Elimination.{elims}
 use Rattle.core_terms.specs.Pool.{tree, node_tree}
 use Rattle.core_terms.specs.Growth.{Extends-trans}
-use Rattle.weak_head.specs.Elims.{elim_in, spine_in}
+use Rattle.weak_head.specs.Elims.{spine_in}
 use Rattle.weak_head.proofs.Spines.{none_of, in_reach, below_at}
 use Rattle.weak_head.proofs.Calls.{left_none, left_some, over_tree}
 use Rattle.weak_head.proofs.bounded.applied.Goals as goal

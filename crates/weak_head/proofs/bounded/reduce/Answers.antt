@@ -1,4 +1,4 @@
-use Rattle.std.proofs.Common.{◌≡◌, ℕ, ◌+◌, [], length, Option, sym, ap, subst, subst₂, refl, arith}
+use Rattle.std.proofs.Common.{ℕ, [], length, Option, sym, ap, subst, subst₂, arith}
 use Rattle.core_rules.specs.Heads.{Heads}
 use Rattle.core_terms.specs.Pool.{tree}
 use Rattle.core_terms.specs.Signature.{signature_in}

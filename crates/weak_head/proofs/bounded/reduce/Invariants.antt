@@ -1,4 +1,4 @@
-use Rattle.std.proofs.Common.{◌≡◌, ◌≤◌, ◌-◌, length, []}
+use Rattle.std.proofs.Common.{◌≤◌, ◌-◌, length, []}
 use Rattle.core_rules.specs.Heads.{Heads}
 use Rattle.core_terms.specs.Pool.{Extends, tree}
 use Rattle.core_terms.specs.Signature.{signature_in}

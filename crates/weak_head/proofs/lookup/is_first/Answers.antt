@@ -1,4 +1,4 @@
-use Rattle.std.proofs.Common.{sym, ◌∙◌, arith}
+use Rattle.std.proofs.Common.{arith}
 use Rattle.weak_head.proofs.Lookups.{no_con, first_none, first_other, first_same}
 use Rattle.weak_head.proofs.lookup.is_first.Goals as goal
 

@@ -1,4 +1,4 @@
-use Rattle.std.proofs.Common.{◌≡◌, length, slice_get, Some, None, sym, ◌∙◌, ap, arith, refl}
+use Rattle.std.proofs.Common.{length, slice_get, sym, ◌∙◌, ap, arith, refl}
 use Rattle.std.proofs.lemmas.Option.{slice_get_past, slice_get_read}
 use Rattle.core_terms.specs.Signature.{fam_of}
 use Rattle.weak_head.proofs.Lookups.{no_con, no_fam, takes_none, takes_past, takes_other, takes_some}

@@ -1,11 +1,10 @@
-use Rattle.std.proofs.Common.{◌≡◌, ℕ, ◌<◌, length, map, List, Option, Some, sym, ap, ◌∙◌, subst, arith}
+use Rattle.std.proofs.Common.{◌≡◌, ℕ, ◌<◌, length, map, Option, Some, sym, ap, ◌∙◌, subst, arith}
 use Rattle.std.specs.List.{AllByRecursion}
-use Rattle.core_rules.specs.Term.{Meta, env_of}
+use Rattle.core_rules.specs.Term.{Meta}
 use Rattle.core_rules.specs.Substitution.{under}
-use Rattle.core_terms.specs.Pool.{Extends, tree, args}
+use Rattle.core_terms.specs.Pool.{tree, args}
 use Rattle.core_terms.specs.Growth.{Extends-refl, Extends-trans, Extends-length}
-use Rattle.core_terms.specs.Solutions.{solved_in}
-use Rattle.weak_head.specs.Pending.{Comes, here}
+use Rattle.weak_head.specs.Pending.{here}
 use Rattle.weak_head.proofs.Resolving.{comes_next, falls_next}
 use Rattle.weak_head.proofs.resolve.resolve.Goals as goal
 

@@ -1,4 +1,4 @@
-use Rattle.std.proofs.Common.{◌≡◌, ◌<◌, ℕ, Option, sym, subst}
+use Rattle.std.proofs.Common.{◌<◌, ℕ, Option, sym, subst}
 use Rattle.core_terms.specs.Pool.{tree}
 use Rattle.core_terms.specs.Signature.{signature_in}
 use Rattle.core_terms.specs.Solutions.{solved_in}

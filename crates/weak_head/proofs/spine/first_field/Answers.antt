@@ -1,4 +1,4 @@
-use Rattle.std.proofs.Common.{◌≡◌, Some, None, ap, sym, ◌∙◌, arith}
+use Rattle.std.proofs.Common.{Some, ap, sym, ◌∙◌, arith}
 use Rattle.weak_head.specs.declared.elim.Elim.TheVariants as V
 use Rattle.weak_head.proofs.Spines.{field_at, args_next, args_end, in_reach, none_of}
 use Rattle.weak_head.proofs.spine.first_field.Goals as goal

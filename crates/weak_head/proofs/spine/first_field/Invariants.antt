@@ -1,4 +1,4 @@
-use Rattle.std.proofs.Common.{◌≡◌, ℕ, ◌≤◌, ◌-◌, length, take}
+use Rattle.std.proofs.Common.{ℕ, ◌≤◌, ◌-◌, length, take}
 use Rattle.core_rules.specs.Term.{Term}
 use Rattle.weak_head.specs.Elims.{AreArgs, spine_in}
 use Rattle.weak_head.proofs.spine.first_field.Given as goal
