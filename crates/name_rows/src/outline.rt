@@ -1,6 +1,9 @@
 use crate::printer::Printer;
 use el_outside::NoMemory;
-use scope_check::{Resolved, ResolvedClause, ResolvedItem, ResolvedSignature};
+use scope_check::{
+    Resolved, ResolvedClause, ResolvedExpr, ResolvedItem, ResolvedName, ResolvedPattern,
+    ResolvedSignature,
+};
 use std::alloc::Global;
 
 /// The text. A long one is told by what it is and by its length.
@@ -13,6 +16,20 @@ pub fn short(alloc: Global, what: &str, text: &str) -> Result<String, NoMemory> 
     }
 }
 
+fn short_expr(alloc: Global, what: &str, found: &ResolvedExpr) -> Result<String, NoMemory> {
+    let mut printer = Printer::new(alloc);
+    printer.whole(found)?;
+    short(alloc, what, printer.into_text().as_str())
+}
+
+/// The number of the last name.
+fn last_number(names: &[ResolvedName]) -> u32 {
+    match names.last() {
+        Some(name) => name.id.number(),
+        None => 0,
+    }
+}
+
 /// How many lines there are, how many names the last one has, and the number of the last of these.
 fn lines(alloc: Global, all: &[ResolvedSignature]) -> Result<String, NoMemory> {
     let count = all.len();
@@ -20,14 +37,24 @@ fn lines(alloc: Global, all: &[ResolvedSignature]) -> Result<String, NoMemory> {
         return Ok(String::from_str(alloc, "no lines")?);
     };
     let names = last.names.len();
-    let end = match last.names.as_slice().last() {
-        Some(name) => name.id.number(),
-        None => 0,
-    };
-    let mut ty = Printer::new(alloc);
-    ty.whole(&last.ty)?;
-    let ty = short(alloc, "a type", ty.into_text().as_str())?;
+    let end = last_number(last.names.as_slice());
+    let ty = short_expr(alloc, "a type", &last.ty)?;
     Ok(format!(in alloc; "{count} lines, the last with {names} names up to n{end}: {ty}")?)
+}
+
+fn last_pattern(alloc: Global, patterns: &[ResolvedPattern]) -> Result<String, NoMemory> {
+    let mut end = Printer::new(alloc);
+    if let Some(pattern) = patterns.last() {
+        end.pattern(pattern)?;
+    }
+    short(alloc, "a pattern", end.into_text().as_str())
+}
+
+fn right_side(alloc: Global, right: &Option<ResolvedExpr>) -> Result<String, NoMemory> {
+    match right {
+        Some(value) => short_expr(alloc, "a right side", value),
+        None => Ok(String::new(alloc)),
+    }
 }
 
 /// How many clauses there are, how many patterns the last one has, and the last of these.
@@ -37,16 +64,8 @@ fn clauses(alloc: Global, all: &[ResolvedClause]) -> Result<String, NoMemory> {
         return Ok(String::from_str(alloc, "no clauses")?);
     };
     let patterns = last.patterns.len();
-    let mut end = Printer::new(alloc);
-    if let Some(pattern) = last.patterns.as_slice().last() {
-        end.pattern(pattern)?;
-    }
-    let end = short(alloc, "a pattern", end.into_text().as_str())?;
-    let mut right = Printer::new(alloc);
-    if let Some(value) = &last.right {
-        right.whole(value)?;
-    }
-    let right = short(alloc, "a right side", right.into_text().as_str())?;
+    let end = last_pattern(alloc, last.patterns.as_slice())?;
+    let right = right_side(alloc, &last.right)?;
     Ok(format!(in alloc;
         "{count} clauses, the last with {patterns} patterns up to {end} = {right}"
     )?)
@@ -62,25 +81,18 @@ fn items(alloc: Global, all: &[ResolvedItem]) -> Result<String, NoMemory> {
     Ok(format!(in alloc; "{count} parts, the last with {fields}")?)
 }
 
+/// The form of a declaration, and what is said of its parts.
+fn named(alloc: Global, form: &str, parts: String) -> Result<String, NoMemory> {
+    Ok(format!(in alloc; "{form}: {parts}")?)
+}
+
 /// How many parts a large declaration has, and the end of its last one.
 pub fn outline(alloc: Global, found: &Resolved) -> Result<String, NoMemory> {
     match found {
-        Resolved::Postulate(_, all) => {
-            let all = lines(alloc, all.as_slice())?;
-            Ok(format!(in alloc; "postulate: {all}")?)
-        }
-        Resolved::Function(_, _, all) => {
-            let all = clauses(alloc, all.as_slice())?;
-            Ok(format!(in alloc; "function: {all}")?)
-        }
-        Resolved::Data(_, _, _, _, all) => {
-            let all = lines(alloc, all.as_slice())?;
-            Ok(format!(in alloc; "data: {all}")?)
-        }
-        Resolved::Record(_, _, _, _, all) => {
-            let all = items(alloc, all.as_slice())?;
-            Ok(format!(in alloc; "record: {all}")?)
-        }
+        Resolved::Postulate(_, all) => named(alloc, "postulate", lines(alloc, all.as_slice())?),
+        Resolved::Function(_, _, all) => named(alloc, "function", clauses(alloc, all.as_slice())?),
+        Resolved::Data(_, _, _, _, all) => named(alloc, "data", lines(alloc, all.as_slice())?),
+        Resolved::Record(_, _, _, _, all) => named(alloc, "record", items(alloc, all.as_slice())?),
         Resolved::Open(_, record, _) => {
             let record = record.number();
             Ok(format!(in alloc; "open t{record}")?)

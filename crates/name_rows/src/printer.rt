@@ -21,6 +21,11 @@ fn written(alloc: Global, found: &ResolvedExpr) -> Result<String, NoMemory> {
     Ok(printer.out)
 }
 
+fn written_copy(alloc: Global, found: &ResolvedExpr) -> Result<String, NoMemory> {
+    let copy = found.copy(alloc)?;
+    written(alloc, &copy)
+}
+
 /// What an expression with binders begins with.
 fn opening(found: &ResolvedExpr) -> &'static str {
     match found {
@@ -73,29 +78,32 @@ impl Printer {
         Ok(())
     }
 
+    /// What typed names begin with, and the names.
+    fn group(&mut self, front: &str, all: &[ResolvedName]) -> Result<(), NoMemory> {
+        self.text(front)?;
+        self.names(all)?;
+        self.text(": ")
+    }
+
+    fn braced_name(&mut self, name: &ResolvedName) -> Result<(), NoMemory> {
+        self.text("{")?;
+        self.name(name)?;
+        self.text("}")
+    }
+
     #[cycle(expr)]
     fn binder(&mut self, one: &ResolvedBinder) -> Result<(), NoMemory> {
         match one {
             ResolvedBinder::Explicit(_, all, ty) => {
-                self.text("(")?;
-                self.names(all.as_slice())?;
-                self.text(": ")?;
-                self.expr(ty.get())?;
-                self.text(")")
+                self.group("(", all.as_slice())?;
+                self.closed(ty.get(), ")")
             }
             ResolvedBinder::Implicit(_, all, ty) => {
-                self.text("{")?;
-                self.names(all.as_slice())?;
-                self.text(": ")?;
-                self.expr(ty.get())?;
-                self.text("}")
+                self.group("{", all.as_slice())?;
+                self.closed(ty.get(), "}")
             }
             ResolvedBinder::Name(name) => self.name(name),
-            ResolvedBinder::Braced(_, name) => {
-                self.text("{")?;
-                self.name(name)?;
-                self.text("}")
-            }
+            ResolvedBinder::Braced(_, name) => self.braced_name(name),
             ResolvedBinder::Underscore(_) => self.text("_"),
         }
     }
@@ -109,36 +117,70 @@ impl Printer {
         Ok(())
     }
 
+    fn label(&mut self, name: &ResolvedName) -> Result<(), NoMemory> {
+        self.text("{")?;
+        self.name(name)?;
+        self.text(" = ")
+    }
+
     #[cycle(expr)]
     fn arg(&mut self, one: &ResolvedArg) -> Result<(), NoMemory> {
         match one {
             ResolvedArg::Plain(value) => self.expr(value),
             ResolvedArg::Implicit(_, value) => {
                 self.text("{")?;
-                self.expr(value)?;
-                self.text("}")
+                self.closed(value, "}")
             }
             ResolvedArg::Named(_, name, value) => {
-                self.text("{")?;
-                self.name(name)?;
-                self.text(" = ")?;
-                self.expr(value)?;
-                self.text("}")
+                self.label(name)?;
+                self.closed(value, "}")
             }
             ResolvedArg::Project(_, field) => self.number(".f", field.number()),
         }
     }
 
+    fn value_name(&mut self, name: &ResolvedName) -> Result<(), NoMemory> {
+        self.text(" ")?;
+        self.name(name)?;
+        self.text(" = ")
+    }
+
     #[cycle(expr)]
     fn values(&mut self, all: &[ResolvedValue]) -> Result<(), NoMemory> {
         for one in all {
-            self.text(" ")?;
-            self.name(&one.name)?;
-            self.text(" = ")?;
-            self.expr(&one.value)?;
-            self.text(";")?;
+            self.value_name(&one.name)?;
+            self.closed(&one.value, ";")?;
         }
         Ok(())
+    }
+
+    /// An expression, and what comes after it.
+    #[cycle(expr)]
+    fn closed(&mut self, value: &ResolvedExpr, end: &str) -> Result<(), NoMemory> {
+        self.expr(value)?;
+        self.text(end)
+    }
+
+    /// What an expression with binders begins with, and the binders.
+    #[cycle(expr)]
+    fn around(&mut self, front: &str, all: &[ResolvedBinder]) -> Result<(), NoMemory> {
+        self.text(front)?;
+        self.binders(all)?;
+        self.text("→ ")
+    }
+
+    /// The arguments of an application.
+    #[cycle(expr)]
+    fn rest(&mut self, all: &[ResolvedArg]) -> Result<(), NoMemory> {
+        self.args(all)?;
+        self.text(")")
+    }
+
+    #[cycle(expr)]
+    fn record(&mut self, all: &[ResolvedValue]) -> Result<(), NoMemory> {
+        self.text("record {")?;
+        self.values(all)?;
+        self.text("}")
     }
 
     #[cycle(expr)]
@@ -147,24 +189,18 @@ impl Printer {
             ResolvedExpr::Pi(_, around, body)
             | ResolvedExpr::Forall(_, around, body)
             | ResolvedExpr::Lambda(_, around, body) => {
-                self.text(opening(found))?;
-                self.binders(around.as_slice())?;
-                self.text("→ ")?;
-                self.expr(body.get())?;
-                self.text(")")
+                self.around(opening(found), around.as_slice())?;
+                self.closed(body.get(), ")")
             }
             ResolvedExpr::Arrow(_, left, right) => {
                 self.text("(")?;
-                self.expr(left.get())?;
-                self.text(" → ")?;
-                self.expr(right.get())?;
-                self.text(")")
+                self.closed(left.get(), " → ")?;
+                self.closed(right.get(), ")")
             }
             ResolvedExpr::App(_, head, all) => {
                 self.text("(")?;
                 self.expr(head.get())?;
-                self.args(all.as_slice())?;
-                self.text(")")
+                self.rest(all.as_slice())
             }
             ResolvedExpr::Variable(_, index) => self.number("v", *index),
             ResolvedExpr::Def(_, def) => self.number("d", def.number()),
@@ -173,18 +209,14 @@ impl Printer {
             ResolvedExpr::SetLevel(_, level) => self.number("Set", level.number()),
             ResolvedExpr::Hole(_) => self.text("?"),
             ResolvedExpr::Underscore(_) => self.text("_"),
-            ResolvedExpr::Record(_, all) => {
-                self.text("record {")?;
-                self.values(all.as_slice())?;
-                self.text("}")
-            }
+            ResolvedExpr::Record(_, all) => self.record(all.as_slice()),
         }
     }
 
     /// An expression that stands in no other one. Its copy is written alike.
     pub fn whole(&mut self, found: &ResolvedExpr) -> Result<(), NoMemory> {
         let one = written(self.alloc, found)?;
-        let copy = written(self.alloc, &found.copy(self.alloc)?)?;
+        let copy = written_copy(self.alloc, found)?;
         if one.as_str() == copy.as_str() {
             self.text(one.as_str())
         } else {
@@ -202,19 +234,27 @@ impl Printer {
     }
 
     #[cycle(pattern)]
+    fn braced_pattern(&mut self, inner: &ResolvedPattern) -> Result<(), NoMemory> {
+        self.pattern(inner)?;
+        self.text("}")
+    }
+
+    fn dotted(&mut self, value: &ResolvedExpr) -> Result<(), NoMemory> {
+        self.text(".[")?;
+        self.whole(value)?;
+        self.text("]")
+    }
+
+    #[cycle(pattern)]
     pub fn pattern(&mut self, one: &ResolvedPattern) -> Result<(), NoMemory> {
         match one {
             ResolvedPattern::Implicit(_, inner) => {
                 self.text("{")?;
-                self.pattern(inner.get())?;
-                self.text("}")
+                self.braced_pattern(inner.get())
             }
             ResolvedPattern::Named(_, name, inner) => {
-                self.text("{")?;
-                self.name(name)?;
-                self.text(" = ")?;
-                self.pattern(inner.get())?;
-                self.text("}")
+                self.label(name)?;
+                self.braced_pattern(inner.get())
             }
             ResolvedPattern::Project(_, field) => self.number(".f", field.number()),
             ResolvedPattern::Variable(name) => self.name(name),
@@ -225,11 +265,7 @@ impl Printer {
             }
             ResolvedPattern::Underscore(_) => self.text("_"),
             ResolvedPattern::Absurd(_) => self.text("()"),
-            ResolvedPattern::Dotted(_, value) => {
-                self.text(".[")?;
-                self.whole(value)?;
-                self.text("]")
-            }
+            ResolvedPattern::Dotted(_, value) => self.dotted(value),
         }
     }
 
@@ -248,13 +284,18 @@ impl Printer {
         Ok(())
     }
 
-    fn clause(&mut self, one: &ResolvedClause) -> Result<(), NoMemory> {
-        self.number(" d", one.function.number())?;
-        self.patterns(one.patterns.as_slice())?;
-        if let Some(right) = &one.right {
+    fn right(&mut self, right: &Option<ResolvedExpr>) -> Result<(), NoMemory> {
+        if let Some(right) = right {
             self.text(" = ")?;
             self.whole(right)?;
         }
+        Ok(())
+    }
+
+    fn clause(&mut self, one: &ResolvedClause) -> Result<(), NoMemory> {
+        self.number(" d", one.function.number())?;
+        self.patterns(one.patterns.as_slice())?;
+        self.right(&one.right)?;
         self.text(";")
     }
 
@@ -265,15 +306,17 @@ impl Printer {
         Ok(())
     }
 
+    fn constructor(&mut self, name: &ResolvedName) -> Result<(), NoMemory> {
+        self.text(" constructor ")?;
+        self.name(name)?;
+        self.text(";")
+    }
+
     fn item(&mut self, one: &ResolvedItem) -> Result<(), NoMemory> {
         match one {
             ResolvedItem::Inductive(_) => self.text(" inductive;"),
             ResolvedItem::Coinductive(_) => self.text(" coinductive;"),
-            ResolvedItem::Constructor(_, name) => {
-                self.text(" constructor ")?;
-                self.name(name)?;
-                self.text(";")
-            }
+            ResolvedItem::Constructor(_, name) => self.constructor(name),
             ResolvedItem::Field(_, fields) => {
                 self.text(" field")?;
                 self.signatures(fields.as_slice())
@@ -288,21 +331,32 @@ impl Printer {
         Ok(())
     }
 
-    /// The word of a family, its name, parameters and type.
-    fn family(
+    /// The word of a family, and its name.
+    fn family(&mut self, word: &str, name: &ResolvedName) -> Result<(), NoMemory> {
+        self.text(word)?;
+        self.name(name)?;
+        self.text(" ")
+    }
+
+    /// The parameters and the type of a family.
+    fn family_type(
         &mut self,
-        word: &str,
-        name: &ResolvedName,
         around: &[ResolvedBinder],
         ty: &ResolvedExpr,
     ) -> Result<(), NoMemory> {
-        self.text(word)?;
-        self.name(name)?;
-        self.text(" ")?;
         self.binders(around)?;
         self.text(": ")?;
         self.whole(ty)?;
         self.text(" where")
+    }
+
+    fn function(
+        &mut self,
+        head: &ResolvedSignature,
+        all: &[ResolvedClause],
+    ) -> Result<(), NoMemory> {
+        self.signature(head)?;
+        self.clauses(all)
     }
 
     pub fn decl(&mut self, found: &Resolved) -> Result<(), NoMemory> {
@@ -311,20 +365,19 @@ impl Printer {
                 self.text("postulate")?;
                 self.signatures(all.as_slice())
             }
-            Resolved::Function(_, head, all) => {
-                self.signature(head)?;
-                self.clauses(all.as_slice())
-            }
+            Resolved::Function(_, head, all) => self.function(head, all.as_slice()),
             Resolved::Open(_, record, public) => {
                 self.number("open t", record.number())?;
                 self.text(if *public { " public" } else { "" })
             }
             Resolved::Data(_, name, around, ty, all) => {
-                self.family("data ", name, around.as_slice(), ty)?;
+                self.family("data ", name)?;
+                self.family_type(around.as_slice(), ty)?;
                 self.signatures(all.as_slice())
             }
             Resolved::Record(_, name, around, ty, all) => {
-                self.family("record ", name, around.as_slice(), ty)?;
+                self.family("record ", name)?;
+                self.family_type(around.as_slice(), ty)?;
                 self.items(all.as_slice())
             }
         }

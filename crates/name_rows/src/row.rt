@@ -3,7 +3,7 @@ ghost use Rattle.std.specs.Prelude.{◌<◌, length};
 use crate::outline::{outline, short};
 use crate::printer::Printer;
 use crate::reading::read;
-use el_outside::NoMemory;
+use el_outside::{NoMemory, Pos};
 use scope_check::{Resolved, Scope, ScopeError, ScopeKind, resolve};
 use source_tree::Decl;
 use std::alloc::Global;
@@ -43,6 +43,15 @@ fn accepted(alloc: Global, found: &Resolved, detail: Detail) -> Result<String, N
     }
 }
 
+/// The place, kind and name of a refusal.
+fn refusal(alloc: Global, pos: Pos, kind: ScopeKind, name: &str) -> Result<String, NoMemory> {
+    let line = pos.line;
+    let col = pos.col;
+    let kind = word(kind);
+    let name = short(alloc, "a name", name)?;
+    Ok(format!(in alloc; "{line}:{col} {kind} {name}")?)
+}
+
 /// The declaration as it is resolved after those before it, or its refusal.
 fn resolved(
     alloc: Global,
@@ -53,13 +62,7 @@ fn resolved(
     match resolve(alloc, scope, decl) {
         Ok(found) => accepted(alloc, &found, detail),
         Err(ScopeError::NoMemory) => Err(NoMemory),
-        Err(ScopeError::Bad { pos, kind, name }) => {
-            let line = pos.line;
-            let col = pos.col;
-            let kind = word(kind);
-            let name = short(alloc, "a name", name.as_str())?;
-            Ok(format!(in alloc; "{line}:{col} {kind} {name}")?)
-        }
+        Err(ScopeError::Bad { pos, kind, name }) => refusal(alloc, pos, kind, name.as_str()),
     }
 }
 
@@ -96,6 +99,60 @@ fn numbers(alloc: Global, names: &Names) -> Result<String, NoMemory> {
     Ok(out)
 }
 
+/// A line for each declaration.
+fn lines(
+    alloc: Global,
+    out: &mut String,
+    scope: &mut Scope,
+    all: &[Decl],
+    detail: Detail,
+) -> Result<(), NoMemory> {
+    for decl in all {
+        let line = resolved_again(alloc, scope, decl, detail)?;
+        writeln!(out, "    {line}")?;
+    }
+    Ok(())
+}
+
+/// How many declarations there are, and a line for the last one.
+fn last_line(
+    alloc: Global,
+    out: &mut String,
+    scope: &mut Scope,
+    all: &[Decl],
+) -> Result<(), NoMemory> {
+    let mut last = String::new(alloc);
+    for decl in all {
+        last = resolved_again(alloc, scope, decl, Detail::Outline)?;
+    }
+    let count = all.len();
+    writeln!(out, "    {count} declarations, the last: {last}")?;
+    Ok(())
+}
+
+fn put_numbers(alloc: Global, out: &mut String, names: &Names) -> Result<(), NoMemory> {
+    let all = numbers(alloc, names)?;
+    writeln!(out, "   {all}")?;
+    Ok(())
+}
+
+fn put(
+    alloc: Global,
+    out: &mut String,
+    scope: &mut Scope,
+    all: &[Decl],
+    detail: Detail,
+) -> Result<(), NoMemory> {
+    match detail {
+        Detail::Lines => lines(alloc, out, scope, all, detail),
+        Detail::Numbers => {
+            lines(alloc, out, scope, all, detail)?;
+            put_numbers(alloc, out, scope.names())
+        }
+        Detail::Outline => last_line(alloc, out, scope, all),
+    }
+}
+
 /// What is shown of a text.
 pub fn row(alloc: Global, text: &str, detail: Detail) -> Result<String, NoMemory> {
     let Some(file) = read(alloc, text)? else {
@@ -103,23 +160,6 @@ pub fn row(alloc: Global, text: &str, detail: Detail) -> Result<String, NoMemory
     };
     let mut scope = Scope::new(alloc)?;
     let mut out = String::new(alloc);
-    let mut last = String::new(alloc);
-    for decl in file.decls.as_slice() {
-        last = resolved_again(alloc, &mut scope, decl, detail)?;
-        if !matches!(detail, Detail::Outline) {
-            writeln!(out, "    {last}")?;
-        }
-    }
-    match detail {
-        Detail::Lines => {}
-        Detail::Numbers => {
-            let all = numbers(alloc, scope.names())?;
-            writeln!(out, "   {all}")?;
-        }
-        Detail::Outline => {
-            let count = file.decls.len();
-            writeln!(out, "    {count} declarations, the last: {last}")?;
-        }
-    }
+    put(alloc, &mut out, &mut scope, file.decls.as_slice(), detail)?;
     Ok(out)
 }

@@ -12,14 +12,20 @@ fn line(out: &mut String, locals: &Locals, around: &str, text: &str) -> Result<(
     Ok(())
 }
 
-fn lines(out: &mut String, locals: &mut Locals) -> Result<(), NoMemory> {
+fn come(out: &mut String, locals: &mut Locals) -> Result<(), NoMemory> {
     locals.push("x")?;
     locals.push("x")?;
     locals.push("")?;
-    line(out, locals, "x x _", "x")?;
+    line(out, locals, "x x _", "x")
+}
+
+fn hide(out: &mut String, locals: &mut Locals) -> Result<(), NoMemory> {
     locals.push("x")?;
     line(out, locals, "x x _ x", "x")?;
-    line(out, locals, "x x _ x", "")?;
+    line(out, locals, "x x _ x", "")
+}
+
+fn go(out: &mut String, locals: &mut Locals) -> Result<(), NoMemory> {
     locals.cut(3);
     line(out, locals, "x x _", "x")?;
     locals.cut(1);
@@ -32,6 +38,8 @@ fn lines(out: &mut String, locals: &mut Locals) -> Result<(), NoMemory> {
 pub fn places(alloc: Global) -> Result<String, NoMemory> {
     let mut out = String::from_str(alloc, "variables around an expression\n")?;
     let mut locals = Locals::new(alloc);
-    lines(&mut out, &mut locals)?;
+    come(&mut out, &mut locals)?;
+    hide(&mut out, &mut locals)?;
+    go(&mut out, &mut locals)?;
     Ok(out)
 }

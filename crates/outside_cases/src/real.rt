@@ -1,7 +1,7 @@
 //! Files and streams of the system.
 use crate::fault::Fault;
 use crate::shown::{put, read, take, write};
-use el_outside::{FileRead, Files as _, RealFiles, RealSink, RealSource};
+use el_outside::{FileRead, Files as _, RealFiles, RealSink, RealSource, Source};
 use std::alloc::Global;
 use std::fs;
 use std::fs::Permissions;
@@ -12,18 +12,27 @@ const NAME: &str = "outside_cases.out";
 
 const LONG: usize = 70_001;
 
-/// A file is read whole, and else up to one byte past the limit. A write of no byte leaves an empty file.
+/// A file is read whole, and else up to one byte past the limit.
+fn short_reads<R, F>(rt: &R, files: &mut F) -> Result<(), Fault>
+where
+    R: Print + AllocGlobal,
+    F: el_outside::Files,
+{
+    read(rt, "real files", files, NAME, 9)?;
+    read(rt, "real files", files, NAME, 4)?;
+    read(rt, "real files", files, NAME, 3)?;
+    read(rt, "real files", files, NAME, 0)
+}
+
+/// A write of no byte leaves an empty file.
 fn short_file<R: Files + Print + AllocGlobal>(rt: &R) -> Result<(), Fault> {
     let mut files = RealFiles::new(rt);
     write(rt, "real files", &mut files, NAME, b"abcde")?;
-    for limit in [9, 4, 3, 0] {
-        read(rt, "real files", &mut files, NAME, limit)?;
-    }
+    short_reads(rt, &mut files)?;
     write(rt, "real files", &mut files, NAME, b"")?;
     read(rt, "real files", &mut files, NAME, 9)
 }
 
-/// A file of more than 64 KiB.
 fn long_bytes(alloc: Global) -> Result<Vec<u8>, Fault> {
     let mut bytes = Vec::new(alloc);
     for i in 0..LONG {
@@ -34,46 +43,84 @@ fn long_bytes(alloc: Global) -> Result<Vec<u8>, Fault> {
 
 /// How much of the long file is read up to a limit, and whether it is the front of what was written.
 fn long_read(rt: &impl Print, limit: u32, found: &FileRead, bytes: &[u8]) -> Result<(), Fault> {
+    print!(rt; "real files: read of {LONG} bytes up to {limit}: ")?;
     match found {
-        FileRead::Bytes(found) => {
-            let count = found.len();
-            let same = bytes.starts_with(found.as_slice());
-            println!(rt;
-                "real files: read of {LONG} bytes up to {limit}: {count} bytes, the same: {same}"
-            )?;
-        }
-        _ => println!(rt; "real files: read of {LONG} bytes up to {limit}: none")?,
+        FileRead::Bytes(found) => long_found(rt, found.as_slice(), bytes),
+        _ => no_bytes(rt),
     }
+}
+
+fn long_found(rt: &impl Print, found: &[u8], bytes: &[u8]) -> Result<(), Fault> {
+    let count = found.len();
+    let same = bytes.starts_with(found);
+    println!(rt; "{count} bytes, the same: {same}")?;
     Ok(())
 }
 
+fn no_bytes(rt: &impl Print) -> Result<(), Fault> {
+    println!(rt; "none")?;
+    Ok(())
+}
+
+fn long_reads<R, F>(rt: &R, files: &mut F, bytes: &[u8], limit: u32) -> Result<(), Fault>
+where
+    R: Print + AllocGlobal,
+    F: el_outside::Files,
+{
+    let found = files.read(rt.alloc(), NAME, limit);
+    long_read(rt, limit, &found, bytes)
+}
+
+/// A file of more than 64 KiB.
 fn long_file<R: Files + Print + AllocGlobal>(rt: &R) -> Result<(), Fault> {
     let bytes = long_bytes(rt.alloc())?;
     let mut files = RealFiles::new(rt);
     files.write(NAME, bytes.as_slice());
-    for limit in [1_048_576, 70_000, 65_536] {
-        let found = files.read(rt.alloc(), NAME, limit);
-        long_read(rt, limit, &found, bytes.as_slice())?;
-    }
+    long_reads(rt, &mut files, bytes.as_slice(), 1_048_576)?;
+    long_reads(rt, &mut files, bytes.as_slice(), 70_000)?;
+    long_reads(rt, &mut files, bytes.as_slice(), 65_536)
+}
+
+fn close<R: Files + AllocGlobal>(rt: &R) -> Result<(), Fault> {
+    fs::set_permissions(rt, NAME, Permissions::from_mode(0))?;
     Ok(())
+}
+
+fn remove<R: Files + AllocGlobal>(rt: &R) -> Result<(), Fault> {
+    fs::remove_file(rt, NAME)?;
+    Ok(())
+}
+
+fn closed_calls<R, F>(rt: &R, files: &mut F) -> Result<(), Fault>
+where
+    R: Print + AllocGlobal,
+    F: el_outside::Files,
+{
+    read(rt, "real files", files, NAME, 9)?;
+    write(rt, "real files", files, NAME, b"f")
 }
 
 /// A file that may be neither read nor written.
 fn closed_file<R: Files + Print + AllocGlobal>(rt: &R) -> Result<(), Fault> {
     let mut files = RealFiles::new(rt);
     write(rt, "real files", &mut files, NAME, b"abcde")?;
-    fs::set_permissions(rt, NAME, Permissions::from_mode(0))?;
-    read(rt, "real files", &mut files, NAME, 9)?;
-    write(rt, "real files", &mut files, NAME, b"f")?;
-    fs::remove_file(rt, NAME)?;
-    Ok(())
+    close(rt)?;
+    closed_calls(rt, &mut files)?;
+    remove(rt)
+}
+
+fn no_calls<R, F>(rt: &R, files: &mut F) -> Result<(), Fault>
+where
+    R: Print + AllocGlobal,
+    F: el_outside::Files,
+{
+    read(rt, "real files", files, "outside_cases.none", 9)?;
+    read(rt, "real files", files, ".", 9)?;
+    write(rt, "real files", files, ".", b"a")
 }
 
 fn no_file<R: Files + Print + AllocGlobal>(rt: &R) -> Result<(), Fault> {
-    let mut files = RealFiles::new(rt);
-    read(rt, "real files", &mut files, "outside_cases.none", 9)?;
-    read(rt, "real files", &mut files, ".", 9)?;
-    write(rt, "real files", &mut files, ".", b"a")
+    no_calls(rt, &mut RealFiles::new(rt))
 }
 
 /// What is put into a file is taken from it again. A file that is open for reading takes nothing, a folder gives nothing,
@@ -84,8 +131,7 @@ fn streams<R: Files + Print + AllocGlobal>(rt: &R) -> Result<(), Fault> {
     closed_sink(rt)?;
     folder_source(rt)?;
     full_sink(rt)?;
-    fs::remove_file(rt, NAME)?;
-    Ok(())
+    remove(rt)
 }
 
 fn file_sink<R: Files + Print + AllocGlobal>(rt: &R) -> Result<(), Fault> {
@@ -94,10 +140,18 @@ fn file_sink<R: Files + Print + AllocGlobal>(rt: &R) -> Result<(), Fault> {
 }
 
 fn file_source<R: Files + Print + AllocGlobal>(rt: &R) -> Result<(), Fault> {
-    let mut buffer = [0_u8; 2];
     let mut source = RealSource::new(fs::open(rt, NAME)?);
+    three_takes(rt, &mut source)
+}
+
+fn three_takes<R, S>(rt: &R, source: &mut S) -> Result<(), Fault>
+where
+    R: Print + AllocGlobal,
+    S: Source,
+{
+    let mut buffer = [0_u8; 2];
     for _ in 0..3 {
-        take(rt, "real source", &mut source, &mut buffer)?;
+        take(rt, "real source", source, &mut buffer)?;
     }
     Ok(())
 }

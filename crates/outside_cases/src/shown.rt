@@ -31,14 +31,14 @@ pub fn take<R: Print + AllocGlobal, S: Source>(
 ) -> Result<(), Fault>
     requires { 0 < length into.old }
 {
+    print!(rt; "{name}: ")?;
     match source.take(into) {
-        Ok(n) => {
-            let text = text_of(rt, &into[..n])?;
-            println!(rt; "{name}: [{text}]")?;
+        Ok(n) => bracketed(rt, &into[..n]),
+        Err(error) => {
+            println!(rt; "{error:?}")?;
+            Ok(())
         }
-        Err(error) => println!(rt; "{name}: {error:?}")?,
     }
-    Ok(())
 }
 
 pub fn read<R: Print + AllocGlobal, F: Files>(
@@ -48,13 +48,25 @@ pub fn read<R: Print + AllocGlobal, F: Files>(
     name: &str,
     limit: u32,
 ) -> Result<(), Fault> {
-    match files.read(rt.alloc(), name, limit) {
-        FileRead::Bytes(bytes) => {
-            let text = text_of(rt, bytes.as_slice())?;
-            println!(rt; "{device}: read {name} up to {limit}: [{text}]")?;
+    print!(rt; "{device}: read {name} up to {limit}: ")?;
+    let found = files.read(rt.alloc(), name, limit);
+    answer(rt, &found)
+}
+
+fn answer<R: Print + AllocGlobal>(rt: &R, found: &FileRead) -> Result<(), Fault> {
+    match found {
+        FileRead::Bytes(bytes) => bracketed(rt, bytes.as_slice()),
+        other => {
+            println!(rt; "{other:?}")?;
+            Ok(())
         }
-        other => println!(rt; "{device}: read {name} up to {limit}: {other:?}")?,
     }
+}
+
+/// Bytes as text, in brackets.
+fn bracketed<R: Print + AllocGlobal>(rt: &R, bytes: &[u8]) -> Result<(), Fault> {
+    let text = text_of(rt, bytes)?;
+    println!(rt; "[{text}]")?;
     Ok(())
 }
 

@@ -20,24 +20,51 @@ fn typed(alloc: Global, pos: Pos, ty: &str) -> Result<Typed, NoMemory> {
     Ok(Typed { pos, ty })
 }
 
-/// Two goals, one of them not reached, two unsolved types, one suspended problem and three shadowed clauses.
-fn open_report(alloc: Global) -> Result<Report, NoMemory> {
-    let reached = goal(alloc, at(7, 12), "(x : ℕ) → P x")?;
-    let other = Goal {
-        pos: at(9, 4_294_967_295),
-        ty: None,
-    };
-    let first = typed(alloc, at(3, 1), "Set")?;
-    let second = typed(alloc, at(3, 10), "_ → Set1")?;
-    Ok(Report {
+fn goals(alloc: Global) -> Result<Many<Goal>, NoMemory> {
+    let mut goals = Vec::new(alloc);
+    goals.push(goal(alloc, at(7, 12), "(x : ℕ) → P x")?)?;
+    let ty = None;
+    let pos = at(9, 4_294_967_295);
+    goals.push(Goal { pos, ty })?;
+    Ok(Many::from_vec(goals))
+}
+
+fn unsolved(alloc: Global) -> Result<Many<Typed>, NoMemory> {
+    let mut all = Vec::new(alloc);
+    all.push(typed(alloc, at(3, 1), "Set")?)?;
+    all.push(typed(alloc, at(3, 10), "_ → Set1")?)?;
+    Ok(Many::from_vec(all))
+}
+
+fn places(alloc: Global, all: &[Pos]) -> Result<Many<Pos>, NoMemory> {
+    Ok(Many::from_vec(Vec::from_slice(alloc, all)?))
+}
+
+fn no_report(alloc: Global) -> Report {
+    Report {
         complete: false,
         declarations: 4_294_967_295,
         inserted: 10,
-        goals: Many::from_vec(vec![in alloc; reached, other]?),
-        unsolved: Many::from_vec(vec![in alloc; first, second]?),
-        suspended: Many::from_vec(vec![in alloc; at(4, 2)]?),
-        shadowed: Many::from_vec(vec![in alloc; at(5, 1), at(6, 1), at(10, 1)]?),
-    })
+        goals: Many::from_vec(Vec::new(alloc)),
+        unsolved: Many::from_vec(Vec::new(alloc)),
+        suspended: Many::from_vec(Vec::new(alloc)),
+        shadowed: Many::from_vec(Vec::new(alloc)),
+    }
+}
+
+fn fill(alloc: Global, report: &mut Report) -> Result<(), NoMemory> {
+    report.goals = goals(alloc)?;
+    report.unsolved = unsolved(alloc)?;
+    report.suspended = places(alloc, &[at(4, 2)])?;
+    report.shadowed = places(alloc, &[at(5, 1), at(6, 1), at(10, 1)])?;
+    Ok(())
+}
+
+/// Two goals, one of them not reached, two unsolved types, one suspended problem and three shadowed clauses.
+fn open_report(alloc: Global) -> Result<Report, NoMemory> {
+    let mut report = no_report(alloc);
+    fill(alloc, &mut report)?;
+    Ok(report)
 }
 
 fn push_report(alloc: Global, out: &mut Vec<u8>, report: &Report) -> Result<(), NoMemory> {
@@ -46,21 +73,23 @@ fn push_report(alloc: Global, out: &mut Vec<u8>, report: &Report) -> Result<(), 
     Ok(())
 }
 
+fn texts(alloc: Global, lines: &[&str]) -> Result<Many<Text>, NoMemory> {
+    let mut texts = Vec::new(alloc);
+    for line in lines {
+        texts.push(Text::from_str(alloc, line)?)?;
+    }
+    Ok(Many::from_vec(texts))
+}
+
 fn push_error(
     alloc: Global,
     out: &mut Vec<u8>,
     kind: LoadKind,
     lines: &[&str],
 ) -> Result<(), NoMemory> {
-    let mut texts = Vec::new(alloc);
-    for line in lines {
-        texts.push(Text::from_str(alloc, line)?)?;
-    }
-    let error = LoadError {
-        pos: at(12, 34),
-        kind,
-        lines: Many::from_vec(texts),
-    };
+    let lines = texts(alloc, lines)?;
+    let pos = at(12, 34);
+    let error = LoadError { pos, kind, lines };
     let bytes = error_bytes(alloc, &error)?;
     out.extend_from_slice(&bytes)?;
     Ok(())
@@ -97,36 +126,76 @@ const KERNEL_KINDS: [KernelKind; 6] = [
     KernelKind::BadTree,
 ];
 
-fn push_errors(alloc: Global, out: &mut Vec<u8>) -> Result<(), NoMemory> {
-    let sides = ["left: Set1", "right: Set"];
-    let ty = ["type: ℕ"];
-    for kind in KINDS {
-        push_error(alloc, out, kind, &[])?;
+/// Kinds that show two sides.
+const SIDE_KINDS: [LoadKind; 4] = [
+    LoadKind::Mismatch,
+    LoadKind::DotWrong,
+    LoadKind::UnifyStuck,
+    LoadKind::Kernel(KernelKind::Mismatch),
+];
+
+/// Kinds that show a type.
+const TYPE_KINDS: [LoadKind; 6] = [
+    LoadKind::NotAFunction,
+    LoadKind::NotARecord,
+    LoadKind::NotAType,
+    LoadKind::Kernel(KernelKind::NotAFunction),
+    LoadKind::Kernel(KernelKind::NotARecord),
+    LoadKind::Kernel(KernelKind::NotAType),
+];
+
+/// Errors of these kinds, all with the same lines.
+fn push_kinds(
+    alloc: Global,
+    out: &mut Vec<u8>,
+    kinds: &[LoadKind],
+    lines: &[&str],
+) -> Result<(), NoMemory> {
+    for kind in kinds {
+        push_error(alloc, out, *kind, lines)?;
     }
-    push_error(alloc, out, LoadKind::Nonlinear, &["x"])?;
-    for kind in [
-        LoadKind::Mismatch,
-        LoadKind::DotWrong,
-        LoadKind::UnifyStuck,
-        LoadKind::Kernel(KernelKind::Mismatch),
-    ] {
-        push_error(alloc, out, kind, sides.as_slice())?;
-    }
-    for kind in [
-        LoadKind::NotAFunction,
-        LoadKind::NotARecord,
-        LoadKind::NotAType,
-        LoadKind::Kernel(KernelKind::NotAFunction),
-        LoadKind::Kernel(KernelKind::NotARecord),
-        LoadKind::Kernel(KernelKind::NotAType),
-    ] {
-        push_error(alloc, out, kind, ty.as_slice())?;
-    }
-    push_error(alloc, out, LoadKind::Missing, &["pred zero"])?;
+    Ok(())
+}
+
+fn push_kernel_kinds(alloc: Global, out: &mut Vec<u8>) -> Result<(), NoMemory> {
     for kind in KERNEL_KINDS {
         push_error(alloc, out, LoadKind::Kernel(kind), &[])?;
     }
     Ok(())
+}
+
+fn push_errors(alloc: Global, out: &mut Vec<u8>) -> Result<(), NoMemory> {
+    push_kinds(alloc, out, KINDS.as_slice(), &[])?;
+    push_error(alloc, out, LoadKind::Nonlinear, &["x"])?;
+    push_kinds(
+        alloc,
+        out,
+        SIDE_KINDS.as_slice(),
+        &["left: Set1", "right: Set"],
+    )?;
+    push_kinds(alloc, out, TYPE_KINDS.as_slice(), &["type: ℕ"])?;
+    push_error(alloc, out, LoadKind::Missing, &["pred zero"])?;
+    push_kernel_kinds(alloc, out)
+}
+
+fn push_copy(alloc: Global, out: &mut Vec<u8>, report: &Report) -> Result<(), NoMemory> {
+    let copy = report.copy(alloc)?;
+    push_report(alloc, out, &copy)
+}
+
+fn copied_goals(alloc: Global, all: &[Goal]) -> Result<Many<Goal>, NoMemory> {
+    let mut goals = Vec::new(alloc);
+    for goal in all {
+        goals.push(goal.copy(alloc)?)?;
+    }
+    Ok(Many::from_vec(goals))
+}
+
+/// The report with copies of its goals.
+fn push_goals(alloc: Global, out: &mut Vec<u8>, report: &Report) -> Result<(), NoMemory> {
+    let mut copy = report.copy(alloc)?;
+    copy.goals = copied_goals(alloc, report.goals.as_slice())?;
+    push_report(alloc, out, &copy)
 }
 
 /// A report, its copy, a report of the copy of a goal, and errors.
@@ -134,17 +203,8 @@ pub fn all(alloc: Global) -> Result<Vec<u8>, NoMemory> {
     let mut out = Vec::new(alloc);
     let report = open_report(alloc)?;
     push_report(alloc, &mut out, &report)?;
-    let copy = report.copy(alloc)?;
-    push_report(alloc, &mut out, &copy)?;
-    let mut goals = Vec::new(alloc);
-    for goal in report.goals.as_slice() {
-        goals.push(goal.copy(alloc)?)?;
-    }
-    let goals_alone = Report {
-        goals: Many::from_vec(goals),
-        ..copy
-    };
-    push_report(alloc, &mut out, &goals_alone)?;
+    push_copy(alloc, &mut out, &report)?;
+    push_goals(alloc, &mut out, &report)?;
     push_errors(alloc, &mut out)?;
     Ok(out)
 }

@@ -28,11 +28,7 @@ fn put_decl(lines: &mut Lines, decl: &Decl) -> Result<(), AllocError> {
         }
         Decl::Clause(clause) => {
             lines.begin("Decl::Clause")?;
-            lines.end()?;
-            lines.down();
-            put_clause(lines, clause)?;
-            lines.up();
-            Ok(())
+            put_alone(lines, clause)
         }
         Decl::Open(place, name, public) => put_open(lines, *place, name, *public),
         Decl::Data(place, name, binders, ty, signatures) => {
@@ -46,6 +42,15 @@ fn put_decl(lines: &mut Lines, decl: &Decl) -> Result<(), AllocError> {
             put_items(lines, items)
         }
     }
+}
+
+/// Ends the line of a declaration, whose only part the clause is.
+fn put_alone(lines: &mut Lines, clause: &Clause) -> Result<(), AllocError> {
+    lines.end()?;
+    lines.down();
+    put_clause(lines, clause)?;
+    lines.up();
+    Ok(())
 }
 
 fn put_function(
@@ -63,9 +68,7 @@ fn put_function(
 }
 
 fn put_open(lines: &mut Lines, place: Place, name: &Name, public: bool) -> Result<(), AllocError> {
-    lines.begin("Decl::Open")?;
-    lines.place(place)?;
-    lines.name(name)?;
+    lines.placed_name("Decl::Open", place, name)?;
     if public {
         lines.text.push_str(" public")?;
     }
@@ -91,9 +94,7 @@ fn put_signatures(lines: &mut Lines, signatures: &Items<Signature>) -> Result<()
 }
 
 fn put_signature(lines: &mut Lines, signature: &Signature) -> Result<(), AllocError> {
-    lines.begin("Signature")?;
-    lines.place(signature.place)?;
-    lines.names(&signature.names)?;
+    lines.group("Signature", signature.place, &signature.names)?;
     put_last(lines, &signature.ty)
 }
 
@@ -101,11 +102,16 @@ fn put_clause(lines: &mut Lines, clause: &Clause) -> Result<(), AllocError> {
     lines.named("Clause", clause.place, &clause.name)?;
     lines.down();
     put_patterns(lines, &clause.patterns)?;
-    if let Some(right) = &clause.right {
-        put_expr(lines, right)?;
-    }
+    put_right(lines, &clause.right)?;
     lines.up();
     Ok(())
+}
+
+fn put_right(lines: &mut Lines, right: &Option<Expr>) -> Result<(), AllocError> {
+    match right {
+        Some(right) => put_expr(lines, right),
+        None => Ok(()),
+    }
 }
 
 fn put_items(lines: &mut Lines, items: &Items<RecordItem>) -> Result<(), AllocError> {

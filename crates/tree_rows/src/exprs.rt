@@ -24,17 +24,13 @@ pub fn put_expr(lines: &mut Lines, expr: &Expr) -> Result<(), AllocError> {
             lines.node("Expr::Arrow", *place)?;
             lines.down();
             put_expr(lines, left.get())?;
-            put_expr(lines, right.get())?;
-            lines.up();
-            Ok(())
+            put_body(lines, right.get())
         }
         Expr::App(place, head, args) => {
             lines.node("Expr::App", *place)?;
             lines.down();
             put_expr(lines, head.get())?;
-            put_args(lines, args)?;
-            lines.up();
-            Ok(())
+            put_rest(lines, args)
         }
         Expr::Name(name) => lines.only_name("Expr::Name", name),
         Expr::Qualified(name) => lines.only_name("Expr::Qualified", name),
@@ -43,17 +39,21 @@ pub fn put_expr(lines: &mut Lines, expr: &Expr) -> Result<(), AllocError> {
         Expr::Underscore(place) => lines.node("Expr::Underscore", *place),
         Expr::Record(place, fields) => {
             lines.node("Expr::Record", *place)?;
-            lines.down();
-            put_fields(lines, fields)?;
-            lines.up();
-            Ok(())
+            put_fields(lines, fields)
         }
     }
 }
 
+/// The lines of arguments, as the last parts of a node.
+#[cycle(put)]
+fn put_rest(lines: &mut Lines, args: &Items<Arg>) -> Result<(), AllocError> {
+    put_args(lines, args)?;
+    lines.up();
+    Ok(())
+}
+
 fn put_level(lines: &mut Lines, place: Place, level: Level) -> Result<(), AllocError> {
-    lines.begin("Expr::SetLevel")?;
-    lines.place(place)?;
+    lines.placed("Expr::SetLevel", place)?;
     lines.text.push_str(" ")?;
     lines.number(level.number())?;
     lines.end()
@@ -72,7 +72,7 @@ fn put_bound(
     put_binders(lines, binders)
 }
 
-/// The lines of what binders bind names in, as the last part of a node.
+/// The lines of the last part of a node.
 #[cycle(put)]
 fn put_body(lines: &mut Lines, body: &Expr) -> Result<(), AllocError> {
     put_expr(lines, body)?;
@@ -93,15 +93,11 @@ pub fn put_binders(lines: &mut Lines, binders: &Items<Binder>) -> Result<(), All
 fn put_binder(lines: &mut Lines, binder: &Binder) -> Result<(), AllocError> {
     match binder {
         Binder::Explicit(place, names, ty) => {
-            lines.begin("Binder::Explicit")?;
-            lines.place(*place)?;
-            lines.names(names)?;
+            lines.group("Binder::Explicit", *place, names)?;
             put_last(lines, ty.get())
         }
         Binder::Implicit(place, names, ty) => {
-            lines.begin("Binder::Implicit")?;
-            lines.place(*place)?;
-            lines.names(names)?;
+            lines.group("Binder::Implicit", *place, names)?;
             put_last(lines, ty.get())
         }
         Binder::Name(name) => lines.only_name("Binder::Name", name),
@@ -136,14 +132,11 @@ fn put_arg(lines: &mut Lines, arg: &Arg) -> Result<(), AllocError> {
             put_last(lines, value)
         }
         Arg::Implicit(place, value) => {
-            lines.begin("Arg::Implicit")?;
-            lines.place(*place)?;
+            lines.placed("Arg::Implicit", *place)?;
             put_last(lines, value)
         }
         Arg::Named(place, name, value) => {
-            lines.begin("Arg::Named")?;
-            lines.place(*place)?;
-            lines.name(name)?;
+            lines.placed_name("Arg::Named", *place, name)?;
             put_last(lines, value)
         }
         Arg::Project(place, name) => lines.named("Arg::Project", *place, name),
@@ -153,10 +146,12 @@ fn put_arg(lines: &mut Lines, arg: &Arg) -> Result<(), AllocError> {
 
 #[cycle(put)]
 fn put_fields(lines: &mut Lines, fields: &Items<FieldValue>) -> Result<(), AllocError> {
+    lines.down();
     for field in fields.as_slice() {
         lines.begin("FieldValue")?;
         lines.name(&field.name)?;
         put_last(lines, &field.value)?;
     }
+    lines.up();
     Ok(())
 }

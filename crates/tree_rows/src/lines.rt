@@ -36,16 +36,16 @@ impl Lines {
         self.text.push_str(digits.as_str())
     }
 
+    /// A blank, and two numbers.
+    fn numbers(&mut self, one: u32, between: &str, two: u32) -> Result<(), AllocError> {
+        let words = format!(in self.alloc; " {one}{between}{two}")?;
+        self.text.push_str(words.as_str())
+    }
+
     /// A place, as in ` 0-3 1:1`: the bytes from the first to the one after the last, the line and the column.
     pub fn place(&mut self, place: Place) -> Result<(), AllocError> {
-        self.text.push_str(" ")?;
-        self.number(place.span.start)?;
-        self.text.push_str("-")?;
-        self.number(place.span.end)?;
-        self.text.push_str(" ")?;
-        self.number(place.pos.line)?;
-        self.text.push_str(":")?;
-        self.number(place.pos.col)
+        self.numbers(place.span.start, "-", place.span.end)?;
+        self.numbers(place.pos.line, ":", place.pos.col)
     }
 
     /// A name and its place, as in ` x 0-1 1:1`.
@@ -62,18 +62,38 @@ impl Lines {
         Ok(())
     }
 
+    /// Begins the line of a node with a place of its own.
+    pub fn placed(&mut self, word: &str, place: Place) -> Result<(), AllocError> {
+        self.begin(word)?;
+        self.place(place)
+    }
+
+    /// Begins the line of a node with a place and a name.
+    pub fn placed_name(&mut self, word: &str, place: Place, name: &Name) -> Result<(), AllocError> {
+        self.placed(word, place)?;
+        self.name(name)
+    }
+
+    /// Begins the line of a node with a place and names.
+    pub fn group(
+        &mut self,
+        word: &str,
+        place: Place,
+        names: &Items<Name>,
+    ) -> Result<(), AllocError> {
+        self.placed(word, place)?;
+        self.names(names)
+    }
+
     /// The line of a node with a place of its own.
     pub fn node(&mut self, word: &str, place: Place) -> Result<(), AllocError> {
-        self.begin(word)?;
-        self.place(place)?;
+        self.placed(word, place)?;
         self.end()
     }
 
     /// The line of a node with a name.
     pub fn named(&mut self, word: &str, place: Place, name: &Name) -> Result<(), AllocError> {
-        self.begin(word)?;
-        self.place(place)?;
-        self.name(name)?;
+        self.placed_name(word, place, name)?;
         self.end()
     }
 

@@ -4,6 +4,8 @@
 //! What has no tree is refused at a place.
 #![tactic(auto)]
 
+ghost use Rattle.std.specs.Prelude.{◌+◌, ◌≤◌, ◌^◌, length};
+
 mod decls;
 mod exprs;
 mod lines;
@@ -14,6 +16,7 @@ mod rows;
 use lines::Lines;
 use read::MOST;
 use rows::{Before, Shown, put_expr_row, put_file_row};
+use std::alloc::AllocError;
 use std::rt::Files;
 use std::{env, fs, io};
 
@@ -29,14 +32,38 @@ fn put_row<R: Files + AllocGlobal>(rt: &R, row: &str, before: &mut Before) -> io
     if text.len() > MOST {
         return Ok(lines.text);
     }
-    match kind {
-        "expr" => put_expr_row(&mut lines, text.as_str(), Shown::Tree, before)?,
-        "expr-size" => put_expr_row(&mut lines, text.as_str(), Shown::Size, before)?,
-        "file" => put_file_row(&mut lines, text.as_str(), Shown::Tree, before)?,
-        "file-size" => put_file_row(&mut lines, text.as_str(), Shown::Size, before)?,
-        _ => {}
-    }
+    put_text(&mut lines, kind, text.as_str(), before)?;
     Ok(lines.text)
+}
+
+/// Prints what the kind of a row asks for.
+fn put_text(
+    lines: &mut Lines,
+    kind: &str,
+    text: &str,
+    before: &mut Before,
+) -> Result<(), AllocError>
+    requires { length text.now + 2 ≤ 2 ^ 32 }
+{
+    match kind {
+        "expr" => put_expr_row(lines, text, Shown::Tree, before),
+        "expr-size" => put_expr_row(lines, text, Shown::Size, before),
+        "file" => put_file_row(lines, text, Shown::Tree, before),
+        "file-size" => put_file_row(lines, text, Shown::Size, before),
+        _ => Ok(()),
+    }
+}
+
+fn put_rows<R: Files + Print + AllocGlobal>(
+    rt: &R,
+    rows: &str,
+    before: &mut Before,
+) -> io::Result<()> {
+    for row in rows.lines() {
+        let text = put_row(rt, row, before)?;
+        print!(rt; "{text}")?;
+    }
+    Ok(())
 }
 
 fn main(rt: HostRuntime) -> io::Result<()> {
@@ -46,10 +73,7 @@ fn main(rt: HostRuntime) -> io::Result<()> {
     };
     for list in env::args(&rt)?.skip(1) {
         let rows = fs::read_to_string(&rt, list.as_str())?;
-        for row in rows.as_str().lines() {
-            let text = put_row(&rt, row, &mut before)?;
-            print!(rt; "{text}")?;
-        }
+        put_rows(&rt, rows.as_str(), &mut before)?;
     }
     Ok(())
 }

@@ -22,16 +22,12 @@ fn put_pattern(lines: &mut Lines, pattern: &Pattern) -> Result<(), AllocError> {
         }
         Pattern::Name(place, name, patterns) => {
             lines.named("Pattern::Name", *place, name)?;
-            lines.down();
-            put_patterns(lines, patterns)?;
-            lines.up();
-            Ok(())
+            put_parts(lines, patterns)
         }
         Pattern::Underscore(place) => lines.node("Pattern::Underscore", *place),
         Pattern::Absurd(place) => lines.node("Pattern::Absurd", *place),
         Pattern::Dotted(place, value) => {
-            lines.begin("Pattern::Dotted")?;
-            lines.place(*place)?;
+            lines.placed("Pattern::Dotted", *place)?;
             put_last(lines, value)
         }
     }
@@ -41,6 +37,14 @@ fn put_pattern(lines: &mut Lines, pattern: &Pattern) -> Result<(), AllocError> {
 fn put_inner(lines: &mut Lines, pattern: &Pattern) -> Result<(), AllocError> {
     lines.down();
     put_pattern(lines, pattern)?;
+    lines.up();
+    Ok(())
+}
+
+#[cycle(put_pattern)]
+fn put_parts(lines: &mut Lines, patterns: &Items<Pattern>) -> Result<(), AllocError> {
+    lines.down();
+    put_patterns(lines, patterns)?;
     lines.up();
     Ok(())
 }

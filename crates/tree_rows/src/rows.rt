@@ -5,8 +5,9 @@ use crate::exprs::put_expr;
 use crate::lines::Lines;
 use crate::read::{NoTree, read_expr, read_file};
 use agda_parser::{ParseError, ParseKind};
+use el_outside::Pos;
 use source_tree::{Expr, File, same, size};
-use std::alloc::AllocError;
+use std::alloc::{AllocError, Global};
 
 /// What is printed of a text that has a tree.
 #[derive(Clone, Copy, Debug, PartialEq, Eq)]
@@ -31,18 +32,20 @@ fn kind_word(kind: ParseKind) -> &'static str {
     }
 }
 
+fn put_error(lines: &mut Lines, pos: Pos, kind: ParseKind) -> Result<(), AllocError> {
+    lines.begin("error ")?;
+    let line = pos.line;
+    let col = pos.col;
+    let kind = kind_word(kind);
+    let words = format!(in lines.alloc; "{line}:{col} {kind}")?;
+    lines.text.push_str(words.as_str())
+}
+
 fn put_no_tree(lines: &mut Lines, why: NoTree) -> Result<(), AllocError> {
     match why {
         NoTree::NoTokens => lines.begin("no tokens")?,
         NoTree::Refused(ParseError::NoMemory) => lines.begin("out of memory")?,
-        NoTree::Refused(ParseError::Bad { pos, kind }) => {
-            lines.begin("error ")?;
-            lines.number(pos.line)?;
-            lines.text.push_str(":")?;
-            lines.number(pos.col)?;
-            lines.text.push_str(" ")?;
-            lines.text.push_str(kind_word(kind))?;
-        }
+        NoTree::Refused(ParseError::Bad { pos, kind }) => put_error(lines, pos, kind)?,
     }
     lines.end()
 }
@@ -72,26 +75,54 @@ pub fn put_expr_row(
 ) -> Result<(), AllocError>
     requires { length text.now + 2 ≤ 2 ^ 32 }
 {
-    let expr = match read_expr(lines.alloc, text) {
-        Ok(expr) => expr,
-        Err(why) => return put_no_tree(lines, why),
-    };
-    if shown == Shown::Tree {
-        put_expr(lines, &expr)?;
+    match read_expr(lines.alloc, text) {
+        Ok(expr) => {
+            put_expr_lines(lines, text, shown, &expr, &before.expr)?;
+            before.expr = Some(expr);
+            Ok(())
+        }
+        Err(why) => put_no_tree(lines, why),
     }
-    let again = match read_expr(lines.alloc, text) {
+}
+
+fn put_expr_lines(
+    lines: &mut Lines,
+    text: &str,
+    shown: Shown,
+    expr: &Expr,
+    before: &Option<Expr>,
+) -> Result<(), AllocError>
+    requires { length text.now + 2 ≤ 2 ^ 32 }
+{
+    if shown == Shown::Tree {
+        put_expr(lines, expr)?;
+    }
+    let again = is_read_again(lines.alloc, text, expr);
+    put_size(lines, expr.size(), again)?;
+    put_expr_before(lines, expr, before)?;
+    lines.end()
+}
+
+/// Whether a second reading gives the same expression.
+fn is_read_again(alloc: Global, text: &str, expr: &Expr) -> bool
+    requires { length text.now + 2 ≤ 2 ^ 32 }
+{
+    match read_expr(alloc, text) {
         Ok(other) => expr.same(&other),
         Err(_) => false,
-    };
-    put_size(lines, expr.size(), again)?;
-    let same = match &before.expr {
+    }
+}
+
+fn put_expr_before(
+    lines: &mut Lines,
+    expr: &Expr,
+    before: &Option<Expr>,
+) -> Result<(), AllocError> {
+    let same = match before {
         Some(other) => Some(expr.same(other)),
         None => None,
     };
-    put_before(lines, "before", same)?;
-    lines.end()?;
-    before.expr = Some(expr);
-    Ok(())
+    put_before(lines, "before", same)
 }
 
 /// Whether the first declarations of two files are the same.
@@ -111,25 +142,52 @@ pub fn put_file_row(
 ) -> Result<(), AllocError>
     requires { length text.now + 2 ≤ 2 ^ 32 }
 {
-    let file = match read_file(lines.alloc, text) {
-        Ok(file) => file,
-        Err(why) => return put_no_tree(lines, why),
-    };
-    if shown == Shown::Tree {
-        put_file(lines, &file)?;
+    match read_file(lines.alloc, text) {
+        Ok(file) => {
+            put_file_lines(lines, text, shown, &file, &before.file)?;
+            before.file = Some(file);
+            Ok(())
+        }
+        Err(why) => put_no_tree(lines, why),
     }
-    let again = match read_file(lines.alloc, text) {
+}
+
+fn put_file_lines(
+    lines: &mut Lines,
+    text: &str,
+    shown: Shown,
+    file: &File,
+    before: &Option<File>,
+) -> Result<(), AllocError>
+    requires { length text.now + 2 ≤ 2 ^ 32 }
+{
+    if shown == Shown::Tree {
+        put_file(lines, file)?;
+    }
+    let again = is_file_again(lines.alloc, text, file);
+    put_size(lines, size(file), again)?;
+    put_file_before(lines, file, before)?;
+    lines.end()
+}
+
+/// Whether a second reading gives the same file.
+fn is_file_again(alloc: Global, text: &str, file: &File) -> bool
+    requires { length text.now + 2 ≤ 2 ^ 32 }
+{
+    match read_file(alloc, text) {
         Ok(other) => file.same(&other),
         Err(_) => false,
+    }
+}
+
+fn put_file_before(
+    lines: &mut Lines,
+    file: &File,
+    before: &Option<File>,
+) -> Result<(), AllocError> {
+    let Some(other) = before else {
+        return Ok(());
     };
-    put_size(lines, size(&file), again)?;
-    let (whole, first) = match &before.file {
-        Some(other) => (Some(file.same(other)), Some(same_first(&file, other))),
-        None => (None, None),
-    };
-    put_before(lines, "before", whole)?;
-    put_before(lines, "first declaration", first)?;
-    lines.end()?;
-    before.file = Some(file);
-    Ok(())
+    put_before(lines, "before", Some(file.same(other)))?;
+    put_before(lines, "first declaration", Some(same_first(file, other)))
 }
