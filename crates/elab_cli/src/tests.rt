@@ -57,25 +57,6 @@ fn outcome(
     Ok((status, bytes))
 }
 
-#[test]
-fn other_words_give_the_usage_line(rt: HostRuntime) -> Result<(), Fail> {
-    let alloc = rt.alloc();
-    let rows: [&[&str]; 6] = [
-        &[],
-        &["check"],
-        &["check", "a", "b"],
-        &["check", "-x"],
-        &["show", "a"],
-        &["session"],
-    ];
-    for given in rows {
-        let (status, bytes) = outcome(alloc, ROW_1.as_slice(), given, &SOUND)?;
-        assert_eq!(rt; status, Status::Usage);
-        assert_eq!(rt; bytes.as_slice(), USAGE.as_bytes());
-    }
-    Ok(())
-}
-
 // Each call of the outside fails in turn. What went out before is a part of the line.
 #[test]
 fn each_fault_has_its_status(rt: HostRuntime) -> Result<(), Fail> {
