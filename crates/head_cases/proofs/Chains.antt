@@ -4,7 +4,7 @@ use Rattle.std.proofs.Common.{subst}
 use Rattle.std.proofs.lemmas.Option.{same_Some}
 use Rattle.core_rules.specs.Term.{Term, Terms, Var, Sort, Pi, Lam, App, Def, Fam, Con, Proj, Meta, End, And, AllMetas, AllMetasIn}
 use Rattle.core_rules.specs.InScope.{IsAcyclic}
-use Rattle.core_rules.specs.Signature.{ConBranches}
+use Rattle.core_rules.specs.Signature.{ConBranches, NoCon}
 use Rattle.core_rules.specs.Mapped.{AllConBranches}
 use Rattle.core_terms.specs.Pool.{Pool, tree}
 use Rattle.core_terms.specs.Measures.{has_meta, has_meta_in}
@@ -12,9 +12,8 @@ use Rattle.core_terms.specs.Solutions.{AreIn, solved_in}
 use Rattle.core_terms.specs.TreeView.{way_of}
 use Rattle.core_terms.specs.declared.tree.Way.{Way}
 use Rattle.core_terms.specs.declared.tree.Way.TheVariants as W
+use Rattle.core_terms.proofs.SignatureGrowth.{Stands-extends}
 use Rattle.head_cases.specs.Solved.{both_solved}
-use Rattle.head_cases.specs.Standing.{IsBelow}
-use Rattle.core_rules.specs.Signature.{NoCon}
 
 left_none : (a b : Bool) → a || b ≡ false → a ≡ false
 left_none true b e = absurd cc
@@ -72,3 +71,9 @@ none_acyclic p = record { rank = λ k. 0; falls = λ k t e. absurd cc }
 pub in_front : (P : ℕ → Type 0) (k : ℕ) (w : Way) (bs : ConBranches ℕ) → AllConBranches P (way_of k w NoCon) → AllConBranches P bs → AllConBranches P (way_of k w bs)
 in_front P k W.Refuted bs h g = g
 in_front P k (W.Goes b t) bs h g = (h.0, h.1.0, g)
+
+pub ruleset chains = (no_metas, chain_in, chain_acyclic)
+
+pub ruleset stands = (Stands-extends, none_in, none_acyclic)
+
+pub ruleset branches = (in_front)

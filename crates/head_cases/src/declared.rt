@@ -176,13 +176,15 @@ fn postulate(pool: &TermPool, sig: &mut Signature, ty: TermId) -> Result<(), Fau
 fn on_number(
     alloc: Global,
     at: u32,
-    zero: (&[u32], Tree),
-    suc: (&[u32], Tree),
+    zero_keep: &[u32],
+    zero: Tree,
+    suc_keep: &[u32],
+    suc: Tree,
 ) -> Result<Tree, Fault>
-    ensures { IfOk result (λ t. (n : ℕ) → AllTree (λ i. i < n) zero.1 → AllTree (λ i. i < n) suc.1 → AllTree (λ i. i < n) t) }
+    ensures { IfOk result (λ t. (n : ℕ) → AllTree (λ i. i < n) zero → AllTree (λ i. i < n) suc → AllTree (λ i. i < n) t) }
 {
-    let first = goes(alloc, 0, zero.0, zero.1)?;
-    let second = goes(alloc, 1, suc.0, suc.1)?;
+    let first = goes(alloc, 0, zero_keep, zero)?;
+    let second = goes(alloc, 1, suc_keep, suc)?;
     split(alloc, at, first, second)
 }
 
@@ -193,7 +195,7 @@ fn plus(alloc: Global, pool: &TermPool, sig: &mut Signature, bodies: &Bodies) ->
 {
     let zero = leaf(pool, bodies.v0)?;
     let suc = leaf(pool, bodies.suc_of_plus)?;
-    let both = on_number(alloc, 1, (&[0], zero), (&[0, 1], suc))?;
+    let both = on_number(alloc, 1, &[0], zero, &[0, 1], suc)?;
     let inner = intro(alloc, both)?;
     let tree = intro(alloc, inner)?;
     function(alloc, pool, sig, bodies.ty, tree)
@@ -206,7 +208,7 @@ fn down(alloc: Global, pool: &TermPool, sig: &mut Signature, bodies: &Bodies) ->
 {
     let zero = leaf(pool, bodies.zero)?;
     let suc = leaf(pool, bodies.down_of_v0)?;
-    let both = on_number(alloc, 0, (&[], zero), (&[0], suc))?;
+    let both = on_number(alloc, 0, &[], zero, &[0], suc)?;
     let tree = intro(alloc, both)?;
     function(alloc, pool, sig, bodies.ty, tree)
 }
@@ -218,7 +220,7 @@ fn both(alloc: Global, pool: &TermPool, sig: &mut Signature, bodies: &Bodies) ->
 {
     let last = inner_of_both(alloc, pool, bodies)?;
     let other = leaf(pool, bodies.zero)?;
-    let first = on_number(alloc, 1, (&[0], last), (&[0, 1], other))?;
+    let first = on_number(alloc, 1, &[0], last, &[0, 1], other)?;
     let inner = intro(alloc, first)?;
     let tree = intro(alloc, inner)?;
     function(alloc, pool, sig, bodies.ty, tree)
@@ -229,7 +231,7 @@ fn inner_of_both(alloc: Global, pool: &TermPool, bodies: &Bodies) -> Result<Tree
 {
     let zero = leaf(pool, bodies.zero)?;
     let suc = leaf(pool, bodies.zero)?;
-    on_number(alloc, 0, (&[], zero), (&[0], suc))
+    on_number(alloc, 0, &[], zero, &[0], suc)
 }
 
 /// pred (suc n) = n. The branch of zero is refuted.

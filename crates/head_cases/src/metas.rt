@@ -1,9 +1,8 @@
 ghost use Rattle.std.specs.Prelude.{◌≡◌, ◌<◌, length, IsTrue};
 ghost use Rattle.core_rules.specs.InScope.{IsAcyclic};
-ghost use Rattle.core_rules.specs.Term.{AllMetas};
+ghost use Rattle.core_rules.specs.Term.{AllMetas, AllMetasIn};
 ghost use Rattle.core_terms.specs.Pool.{IsArgs, args, tree};
 ghost use Rattle.core_terms.specs.Solutions.{AreIn, solved_in};
-ghost use Rattle.core_rules.specs.Term.{AllMetasIn};
 ghost use Rattle.head_cases.specs.Solved.{both_solved};
 
 use crate::terms::is_in;
@@ -37,6 +36,7 @@ impl Solutions for Solved {
 
 /// Whether no metavariable stands in the first solution, and the second is metavariable 0 at two
 /// arguments in which none stands.
+#[tactic(auto, using(crate::proofs::Chains::chains))]
 pub fn is_chain(pool: &TermPool, solved: &Solved) -> bool
     ensures within { IsTrue result → AreIn pool.now (both_solved solved.now.first solved.now.second) }
     ensures acyclic { IsTrue result → IsAcyclic (solved_in pool.now (both_solved solved.now.first solved.now.second)) }
@@ -45,6 +45,7 @@ pub fn is_chain(pool: &TermPool, solved: &Solved) -> bool
 }
 
 /// Whether it is a term without metavariables.
+#[tactic(auto, using(crate::proofs::Chains::chains))]
 fn has_none(pool: &TermPool, t: TermId) -> bool
     ensures within { IsTrue result → t < length pool.now.trees }
     ensures none { IsTrue result → AllMetas (λ k. k < 0) (tree pool.now t) }
@@ -70,6 +71,7 @@ fn is_first(pool: &TermPool, t: TermId) -> bool
 }
 
 /// Whether they are two arguments without metavariables.
+#[tactic(auto, using(crate::proofs::Chains::chains))]
 fn are_plain(pool: &TermPool, a: Args) -> bool
     requires { IsArgs (tree pool.now) (length pool.now.trees) a }
     ensures { IsTrue result → AllMetasIn (λ k. k < 1) (args pool.now a) }

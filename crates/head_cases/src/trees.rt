@@ -87,6 +87,7 @@ pub fn refuted(con: u32) -> ConBranch
 }
 
 /// A split with two branches.
+#[tactic(auto, using(crate::proofs::Chains::branches))]
 pub fn split(alloc: Global, at: u32, first: ConBranch, second: ConBranch) -> Result<Tree, Fault>
     ensures { IfOk result (λ t. (n : ℕ) → IsBelow n first → IsBelow n second → AllTree (λ i. i < n) t) }
 {

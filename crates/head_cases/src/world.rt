@@ -1,4 +1,4 @@
-ghost use Rattle.std.specs.Prelude.{◌<◌, length};
+ghost use Rattle.std.specs.Prelude.{◌<◌, length, IfOk};
 ghost use Rattle.core_terms.specs.Signature.{Stands};
 
 use crate::atoms::Atoms;
@@ -14,11 +14,10 @@ use weak_head::{Head, head};
 /// A pool, the signature over it, and which metavariables are solved.
 #[derive(Drop)]
 pub struct World {
-    alloc: Global,
-    pool: TermPool,
-    sig: Signature,
-    metas: Metas,
-    ghost stands: { Stands pool sig },
+    pub alloc: Global,
+    pub pool: TermPool,
+    pub sig: Signature,
+    pub metas: Metas,
 }
 
 impl World {
@@ -27,7 +26,9 @@ impl World {
         pool: TermPool,
         atoms: &Atoms,
         metas: Metas,
-    ) -> Result<World, Fault> {
+    ) -> Result<World, Fault>
+        ensures { IfOk result (λ w. Stands w.pool w.sig) }
+    {
         let mut pool = pool;
         let bodies = add_bodies(&mut pool, atoms)?;
         let sig = declared(alloc, &pool, &bodies)?;
@@ -48,7 +49,10 @@ impl World {
         t: TermId,
         wanted: TermId,
         fuel: u32,
-    ) -> Result<(), Fault> {
+    ) -> Result<(), Fault>
+        requires { Stands self.old.pool self.old.sig }
+        ensures { Stands self.new.pool self.new.sig }
+    {
         let seen = self.head(t, fuel)?;
         print!(rt; "{what}: ")?;
         print_head(rt, seen, wanted)?;
@@ -62,7 +66,10 @@ impl World {
     }
 
     /// The number that `t` comes to, by one head form after the other, and the steps of all of them.
-    pub fn read(&mut self, atoms: &Atoms, t: TermId, fuel: u32) -> Result<(u32, u32), Fault> {
+    pub fn read(&mut self, atoms: &Atoms, t: TermId, fuel: u32) -> Result<(u32, u32), Fault>
+        requires { Stands self.old.pool self.old.sig }
+        ensures { Stands self.new.pool self.new.sig }
+    {
         let (mut at, mut steps) = (t, 0u32);
         for n in 0..u32::MAX {
             let Head::Form { term, used } = self.head(at, fuel)? else {
@@ -77,7 +84,10 @@ impl World {
         Err(Fault::NoNumber)
     }
 
-    fn head(&mut self, t: TermId, fuel: u32) -> Result<Head, Fault> {
+    fn head(&mut self, t: TermId, fuel: u32) -> Result<Head, Fault>
+        requires { Stands self.old.pool self.old.sig }
+        ensures { Stands self.new.pool self.new.sig }
+    {
         if !is_in(&self.pool, t) {
             return Err(Fault::Stray);
         }
@@ -90,6 +100,7 @@ impl World {
     }
 }
 
+#[tactic(auto, using(crate::proofs::Chains::stands))]
 fn unsolved_head(alloc: Global, pool: &mut TermPool, sig: &Signature, t: TermId, fuel: u32) -> Head
     requires t { t < length pool.old.trees }
     requires stands { Stands pool.old sig.now }
@@ -98,6 +109,7 @@ fn unsolved_head(alloc: Global, pool: &mut TermPool, sig: &Signature, t: TermId,
     head(alloc, pool, sig, &NoSolutions, t, fuel)
 }
 
+#[tactic(auto, using(crate::proofs::Chains::stands))]
 fn solved_head(
     alloc: Global,
     pool: &mut TermPool,
