@@ -70,7 +70,7 @@ none_acyclic p = record { rank = λ k. 0; falls = λ k t e. absurd cc }
 -- a branch in front of others
 pub in_front : (P : ℕ → Type 0) (k : ℕ) (w : Way) (bs : ConBranches ℕ) → AllConBranches P (way_of k w NoCon) → AllConBranches P bs → AllConBranches P (way_of k w bs)
 in_front P k W.Refuted bs h g = g
-in_front P k (W.Goes b t) bs h g = (h.0, h.1.0, g)
+in_front P k (W.Goes b t) bs h g = (h.0, h.1, g)
 
 pub ruleset chains = (no_metas, chain_in, chain_acyclic)
 

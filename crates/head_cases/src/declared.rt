@@ -1,37 +1,39 @@
-ghost use Rattle.std.specs.Prelude.{◌≡◌, ◌<◌, ℕ, length, IfOk, OnOk};
-ghost use Rattle.core_rules.specs.Mapped.{AllDecl, AllTree, AllCon, AllEntries};
-ghost use Rattle.core_terms.specs.Signature.{Stands, decl_of};
+ghost use Rattle.std.specs.Prelude.{◌≡◌, ◌<◌, length, IfOk, OnOk};
+ghost use Rattle.core_terms.specs.Signature.{Stands};
+ghost use Rattle.head_cases.specs.Standing.{ConIn, DeclIn, EntriesIn, TreeIn};
 
-use crate::atoms::Atoms;
 use crate::fault::Fault;
-use crate::terms::{call, call_two, is_in, variable};
+use crate::terms::is_in;
 use crate::trees::{absurd, cosplit, goes, intro, leaf, record_split, refuted, split};
+use crate::words::term;
 use core_rules::Flag;
 use core_terms::{
-    ConDecl, CoreDecl, Entry, NameId, Node, Row, Signature, Telescope, TermId, TermPool, Tree,
+    ConDecl, CoreDecl, Entry, NameId, Row, Signature, Telescope, TermId, TermPool, Tree,
 };
 use std::alloc::Global;
 
-/// The terms of the declarations.
+/// The terms of the declarations, and of numbers.
 #[derive(Clone, Copy)]
 pub struct Bodies {
     ty: TermId,
     v0: TermId,
-    zero: TermId,
+    pub zero: TermId,
+    pub suc: TermId,
     suc_of_plus: TermId,
     down_of_v0: TermId,
 }
 
-pub fn add_bodies(pool: &mut TermPool, atoms: &Atoms) -> Result<Bodies, Fault> {
-    let (v0, v1) = (variable(pool, 0)?, variable(pool, 1)?);
-    let plus_rest = call_two(pool, atoms.plus, v1, v0)?;
-    Ok(Bodies {
-        ty: pool.add(Node::Sort(0))?,
-        v0,
-        zero: atoms.zero,
-        suc_of_plus: call(pool, atoms.suc, plus_rest)?,
-        down_of_v0: call(pool, atoms.down, v0)?,
-    })
+impl Bodies {
+    pub fn new(alloc: Global, pool: &mut TermPool) -> Result<Bodies, Fault> {
+        Ok(Bodies {
+            ty: term(alloc, pool, "*")?,
+            v0: term(alloc, pool, "0")?,
+            zero: term(alloc, pool, "zero")?,
+            suc: term(alloc, pool, "suc")?,
+            suc_of_plus: term(alloc, pool, "suc plus 1 @ 0 @ @")?,
+            down_of_v0: term(alloc, pool, "down 0 @")?,
+        })
+    }
 }
 
 fn telescope(alloc: Global, entries: &[Entry]) -> Result<Telescope, Fault>
@@ -42,8 +44,9 @@ fn telescope(alloc: Global, entries: &[Entry]) -> Result<Telescope, Fault>
     })
 }
 
-fn constructor(alloc: Global, args: &[Entry]) -> Result<ConDecl, Fault>
-    ensures { IfOk result (λ c. (n : ℕ) → AllEntries (λ i. i < n) args.now → AllCon (λ i. i < n) c) }
+fn constructor(alloc: Global, pool: &TermPool, args: &[Entry]) -> Result<ConDecl, Fault>
+    requires { EntriesIn pool.now args.now }
+    ensures { IfOk result (ConIn pool.now) }
 {
     let args = telescope(alloc, args)?;
     Ok(ConDecl {
@@ -54,13 +57,14 @@ fn constructor(alloc: Global, args: &[Entry]) -> Result<ConDecl, Fault>
 }
 
 /// A data type with a constructor that has no argument and one that has one.
-fn numbers(alloc: Global, ty: TermId) -> Result<CoreDecl, Fault>
-    ensures { IfOk result (λ d. (n : ℕ) → ty < n → AllDecl (λ i. i < n) (decl_of d)) }
+fn numbers(alloc: Global, pool: &TermPool, ty: TermId) -> Result<CoreDecl, Fault>
+    requires { ty < length pool.now.trees }
+    ensures { IfOk result (DeclIn pool.now) }
 {
     let (name, flag) = (NameId::new(0), Flag::Explicit);
     let entry = Entry { name, flag, ty };
-    let zero = constructor(alloc, &[])?;
-    let suc = constructor(alloc, &[entry])?;
+    let zero = constructor(alloc, pool, &[])?;
+    let suc = constructor(alloc, pool, &[entry])?;
     Ok(CoreDecl::Family {
         name,
         params: telescope(alloc, &[])?,
@@ -75,12 +79,13 @@ fn numbers(alloc: Global, ty: TermId) -> Result<CoreDecl, Fault>
 }
 
 /// A record with two fields, which has eta.
-fn pairs(alloc: Global, ty: TermId) -> Result<CoreDecl, Fault>
-    ensures { IfOk result (λ d. (n : ℕ) → ty < n → AllDecl (λ i. i < n) (decl_of d)) }
+fn pairs(alloc: Global, pool: &TermPool, ty: TermId) -> Result<CoreDecl, Fault>
+    requires { ty < length pool.now.trees }
+    ensures { IfOk result (DeclIn pool.now) }
 {
     let (name, flag) = (NameId::new(0), Flag::Explicit);
     let entry = Entry { name, flag, ty };
-    let pair = constructor(alloc, &[entry, entry])?;
+    let pair = constructor(alloc, pool, &[entry, entry])?;
     Ok(CoreDecl::Family {
         name,
         params: telescope(alloc, &[])?,
@@ -95,7 +100,7 @@ fn pairs(alloc: Global, ty: TermId) -> Result<CoreDecl, Fault>
 }
 
 /// The data type, with constructors 0 and 1; the record, with constructor 2 and fields 0 and 1; then
-/// the functions and the postulate in the order of [`Atoms`].
+/// the functions and the postulate, in the order of their words.
 pub fn declared(alloc: Global, pool: &TermPool, bodies: &Bodies) -> Result<Signature, Fault>
     ensures { IfOk result (Stands pool.now) }
 {
@@ -118,14 +123,14 @@ fn families(alloc: Global, pool: &TermPool, ty: TermId) -> Result<Signature, Fau
         return Err(Fault::Stray);
     }
     let mut sig = Signature::new(alloc)?;
-    declare(pool, &mut sig, numbers(alloc, ty)?)?;
-    declare(pool, &mut sig, pairs(alloc, ty)?)?;
+    declare(pool, &mut sig, numbers(alloc, pool, ty)?)?;
+    declare(pool, &mut sig, pairs(alloc, pool, ty)?)?;
     Ok(sig)
 }
 
 fn declare(pool: &TermPool, sig: &mut Signature, decl: CoreDecl) -> Result<(), Fault>
     requires stands { Stands pool.now sig.old }
-    requires decl { AllDecl (λ i. i < length pool.now.trees) (decl_of decl) }
+    requires decl { DeclIn pool.now decl }
     ensures { OnOk result (Stands pool.now sig.new) }
 {
     sig.add(decl)?;
@@ -141,7 +146,7 @@ fn function(
     tree: Tree,
 ) -> Result<(), Fault>
     requires stands { Stands pool.now sig.old }
-    requires tree { AllTree (λ i. i < length pool.now.trees) tree }
+    requires tree { TreeIn pool.now tree }
     ensures { OnOk result (Stands pool.now sig.new) }
 {
     if !is_in(pool, ty) {
@@ -175,17 +180,20 @@ fn postulate(pool: &TermPool, sig: &mut Signature, ty: TermId) -> Result<(), Fau
 /// A split of variable `at` on zero and suc.
 fn on_number(
     alloc: Global,
+    pool: &TermPool,
     at: u32,
     zero_keep: &[u32],
     zero: Tree,
     suc_keep: &[u32],
     suc: Tree,
 ) -> Result<Tree, Fault>
-    ensures { IfOk result (λ t. (n : ℕ) → AllTree (λ i. i < n) zero → AllTree (λ i. i < n) suc → AllTree (λ i. i < n) t) }
+    requires zero { TreeIn pool.now zero }
+    requires suc { TreeIn pool.now suc }
+    ensures { IfOk result (TreeIn pool.now) }
 {
-    let first = goes(alloc, 0, zero_keep, zero)?;
-    let second = goes(alloc, 1, suc_keep, suc)?;
-    split(alloc, at, first, second)
+    let first = goes(alloc, pool, 0, zero_keep, zero)?;
+    let second = goes(alloc, pool, 1, suc_keep, suc)?;
+    split(alloc, pool, at, first, second)
 }
 
 /// plus zero m = m, plus (suc n) m = suc (plus n m).
@@ -195,9 +203,9 @@ fn plus(alloc: Global, pool: &TermPool, sig: &mut Signature, bodies: &Bodies) ->
 {
     let zero = leaf(pool, bodies.v0)?;
     let suc = leaf(pool, bodies.suc_of_plus)?;
-    let both = on_number(alloc, 1, &[0], zero, &[0, 1], suc)?;
-    let inner = intro(alloc, both)?;
-    let tree = intro(alloc, inner)?;
+    let both = on_number(alloc, pool, 1, &[0], zero, &[0, 1], suc)?;
+    let inner = intro(alloc, pool, both)?;
+    let tree = intro(alloc, pool, inner)?;
     function(alloc, pool, sig, bodies.ty, tree)
 }
 
@@ -208,8 +216,8 @@ fn down(alloc: Global, pool: &TermPool, sig: &mut Signature, bodies: &Bodies) ->
 {
     let zero = leaf(pool, bodies.zero)?;
     let suc = leaf(pool, bodies.down_of_v0)?;
-    let both = on_number(alloc, 0, &[], zero, &[0], suc)?;
-    let tree = intro(alloc, both)?;
+    let both = on_number(alloc, pool, 0, &[], zero, &[0], suc)?;
+    let tree = intro(alloc, pool, both)?;
     function(alloc, pool, sig, bodies.ty, tree)
 }
 
@@ -220,18 +228,18 @@ fn both(alloc: Global, pool: &TermPool, sig: &mut Signature, bodies: &Bodies) ->
 {
     let last = inner_of_both(alloc, pool, bodies)?;
     let other = leaf(pool, bodies.zero)?;
-    let first = on_number(alloc, 1, &[0], last, &[0, 1], other)?;
-    let inner = intro(alloc, first)?;
-    let tree = intro(alloc, inner)?;
+    let first = on_number(alloc, pool, 1, &[0], last, &[0, 1], other)?;
+    let inner = intro(alloc, pool, first)?;
+    let tree = intro(alloc, pool, inner)?;
     function(alloc, pool, sig, bodies.ty, tree)
 }
 
 fn inner_of_both(alloc: Global, pool: &TermPool, bodies: &Bodies) -> Result<Tree, Fault>
-    ensures { IfOk result (AllTree (λ i. i < length pool.now.trees)) }
+    ensures { IfOk result (TreeIn pool.now) }
 {
     let zero = leaf(pool, bodies.zero)?;
     let suc = leaf(pool, bodies.zero)?;
-    on_number(alloc, 0, &[], zero, &[0], suc)
+    on_number(alloc, pool, 0, &[], zero, &[0], suc)
 }
 
 /// pred (suc n) = n. The branch of zero is refuted.
@@ -240,9 +248,9 @@ fn pred(alloc: Global, pool: &TermPool, sig: &mut Signature, bodies: &Bodies) ->
     ensures { OnOk result (Stands pool.now sig.new) }
 {
     let suc = leaf(pool, bodies.v0)?;
-    let suc = goes(alloc, 1, &[0], suc)?;
-    let split = split(alloc, 0, refuted(0), suc)?;
-    let tree = intro(alloc, split)?;
+    let suc = goes(alloc, pool, 1, &[0], suc)?;
+    let split = split(alloc, pool, 0, refuted(pool, 0), suc)?;
+    let tree = intro(alloc, pool, split)?;
     function(alloc, pool, sig, bodies.ty, tree)
 }
 
@@ -252,8 +260,8 @@ fn copies(alloc: Global, pool: &TermPool, sig: &mut Signature, bodies: &Bodies) 
     ensures { OnOk result (Stands pool.now sig.new) }
 {
     let body = leaf(pool, bodies.v0)?;
-    let cosplit = cosplit(alloc, 0, body)?;
-    let tree = intro(alloc, cosplit)?;
+    let cosplit = cosplit(alloc, pool, 0, body)?;
+    let tree = intro(alloc, pool, cosplit)?;
     function(alloc, pool, sig, bodies.ty, tree)
 }
 
@@ -263,8 +271,8 @@ fn second(alloc: Global, pool: &TermPool, sig: &mut Signature, bodies: &Bodies) 
     ensures { OnOk result (Stands pool.now sig.new) }
 {
     let body = leaf(pool, bodies.v0)?;
-    let split = record_split(alloc, 0, 1, body)?;
-    let tree = intro(alloc, split)?;
+    let split = record_split(alloc, pool, 0, 1, body)?;
+    let tree = intro(alloc, pool, split)?;
     function(alloc, pool, sig, bodies.ty, tree)
 }
 
@@ -273,6 +281,6 @@ fn empty(alloc: Global, pool: &TermPool, sig: &mut Signature, bodies: &Bodies) -
     requires { Stands pool.now sig.old }
     ensures { OnOk result (Stands pool.now sig.new) }
 {
-    let tree = intro(alloc, absurd(0))?;
+    let tree = intro(alloc, pool, absurd(pool, 0))?;
     function(alloc, pool, sig, bodies.ty, tree)
 }

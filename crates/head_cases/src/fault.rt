@@ -10,6 +10,10 @@ pub enum Fault {
     Stray,
     /// A number was to come, and another term came.
     NoNumber,
+    /// A line is no row.
+    NoRow,
+    /// The words are no term.
+    NoTerm,
     Io(io::Error),
 }
 

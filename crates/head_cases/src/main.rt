@@ -1,32 +1,33 @@
-//! Calls the head forms on terms and signatures that no text has, and prints what it saw.
+//! Calls the head forms on terms and a signature that no text has, and prints what it saw. The arguments name lists of rows; a row
+//! says what it shows, and has its terms in words (`words`).
 #![tactic(auto)]
 
-mod atoms;
-mod blocked;
 mod declared;
 mod fault;
 mod metas;
-mod numerals;
-mod steps;
-mod stuck;
+mod rows;
 mod terms;
 mod trees;
+mod words;
 mod world;
 
 use fault::Fault;
+use rows::show_row;
+use std::{env, fs};
+
+fn show_list(rt: &HostRuntime, list: &str) -> Result<(), Fault> {
+    let rows = fs::read_to_string(rt, list)?;
+    for row in rows.lines() {
+        if !row.as_bytes().starts_with(b"#") {
+            show_row(rt, row)?;
+        }
+    }
+    Ok(())
+}
 
 fn main(rt: HostRuntime) -> Result<(), Fault> {
-    steps::beta(&rt)?;
-    steps::projection(&rt)?;
-    steps::leaves(&rt)?;
-    steps::record_splits(&rt)?;
-    stuck::spines(&rt)?;
-    stuck::splits(&rt)?;
-    blocked::heads(&rt)?;
-    blocked::splits(&rt)?;
-    blocked::solved(&rt)?;
-    numerals::sums(&rt)?;
-    numerals::falls(&rt)?;
-    numerals::chains(&rt)?;
+    for list in env::args(&rt)?.skip(1) {
+        show_list(&rt, list.as_str())?;
+    }
     Ok(())
 }

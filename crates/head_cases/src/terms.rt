@@ -2,7 +2,7 @@ ghost use Rattle.std.specs.Prelude.{◌↔◌, ◌<◌, length, IsTrue};
 
 use crate::fault::Fault;
 use core_rules::Flag;
-use core_terms::{ConId, DefId, FieldId, MetaId, NameId, Node, TermId, TermPool};
+use core_terms::{ConId, DefId, FamId, FieldId, MetaId, NameId, Node, TermId, TermPool};
 
 /// Whether an id stands in the pool.
 pub fn is_in(pool: &TermPool, t: TermId) -> bool
@@ -13,6 +13,14 @@ pub fn is_in(pool: &TermPool, t: TermId) -> bool
 
 pub fn variable(pool: &mut TermPool, index: u32) -> Result<TermId, Fault> {
     Ok(pool.add(Node::Var(index))?)
+}
+
+pub fn set(pool: &mut TermPool) -> Result<TermId, Fault> {
+    Ok(pool.add(Node::Sort(0))?)
+}
+
+pub fn family(pool: &mut TermPool, number: u32) -> Result<TermId, Fault> {
+    Ok(pool.add(Node::Fam(FamId::new(number)))?)
 }
 
 pub fn definition(pool: &mut TermPool, number: u32) -> Result<TermId, Fault> {
@@ -56,22 +64,6 @@ pub fn apply(pool: &mut TermPool, flag: Flag, fun: TermId, arg: TermId) -> Resul
     Ok(pool.add(Node::App { flag, fun, arg })?)
 }
 
-/// The function at one explicit argument.
-pub fn call(pool: &mut TermPool, fun: TermId, arg: TermId) -> Result<TermId, Fault> {
-    apply(pool, Flag::Explicit, fun, arg)
-}
-
-/// The function at two explicit arguments.
-pub fn call_two(
-    pool: &mut TermPool,
-    fun: TermId,
-    first: TermId,
-    second: TermId,
-) -> Result<TermId, Fault> {
-    let one = call(pool, fun, first)?;
-    call(pool, one, second)
-}
-
 pub fn project(pool: &mut TermPool, field: u32, of: TermId) -> Result<TermId, Fault> {
     if !is_in(pool, of) {
         return Err(Fault::Stray);
@@ -80,7 +72,24 @@ pub fn project(pool: &mut TermPool, field: u32, of: TermId) -> Result<TermId, Fa
     Ok(pool.add(Node::Proj { field, of })?)
 }
 
-/// An explicit lambda. Its domain says nothing.
+/// An explicit function type.
+pub fn pi(pool: &mut TermPool, dom: TermId, cod: TermId) -> Result<TermId, Fault> {
+    if !is_in(pool, dom) {
+        return Err(Fault::Stray);
+    }
+    if !is_in(pool, cod) {
+        return Err(Fault::Stray);
+    }
+    let (flag, name) = (Flag::Explicit, NameId::new(0));
+    Ok(pool.add(Node::Pi {
+        flag,
+        name,
+        dom,
+        cod,
+    })?)
+}
+
+/// An explicit lambda over a sort.
 #[tactic(auto, using(term_pool::specs::Growth::growth))]
 pub fn lambda(pool: &mut TermPool, body: TermId) -> Result<TermId, Fault> {
     if !is_in(pool, body) {
@@ -100,7 +109,7 @@ pub fn lambda(pool: &mut TermPool, body: TermId) -> Result<TermId, Fault> {
 pub fn repeat(pool: &mut TermPool, fun: TermId, arg: TermId, times: u32) -> Result<TermId, Fault> {
     let mut t = arg;
     for _ in 0..times {
-        t = call(pool, fun, t)?;
+        t = apply(pool, Flag::Explicit, fun, t)?;
     }
     Ok(t)
 }

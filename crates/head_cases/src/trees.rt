@@ -1,6 +1,5 @@
-ghost use Rattle.std.specs.Prelude.{◌<◌, ℕ, length, IfOk};
-ghost use Rattle.core_rules.specs.Mapped.{AllTree};
-ghost use Rattle.head_cases.specs.Standing.{IsBelow};
+ghost use Rattle.std.specs.Prelude.{IfOk};
+ghost use Rattle.head_cases.specs.Standing.{BranchIn, TreeIn};
 
 use crate::fault::Fault;
 use crate::terms::is_in;
@@ -11,7 +10,7 @@ use core_terms::{
 use std::alloc::Global;
 
 pub fn leaf(pool: &TermPool, body: TermId) -> Result<Tree, Fault>
-    ensures { IfOk result (AllTree (λ i. i < length pool.now.trees)) }
+    ensures { IfOk result (TreeIn pool.now) }
 {
     if !is_in(pool, body) {
         return Err(Fault::Stray);
@@ -21,8 +20,9 @@ pub fn leaf(pool: &TermPool, body: TermId) -> Result<Tree, Fault>
     })
 }
 
-pub fn intro(alloc: Global, rest: Tree) -> Result<Tree, Fault>
-    ensures { IfOk result (λ t. (n : ℕ) → AllTree (λ i. i < n) rest → AllTree (λ i. i < n) t) }
+pub fn intro(alloc: Global, pool: &TermPool, rest: Tree) -> Result<Tree, Fault>
+    requires { TreeIn pool.now rest }
+    ensures { IfOk result (TreeIn pool.now) }
 {
     let rest = Box::new(alloc, rest)?;
     Ok(Tree {
@@ -30,8 +30,15 @@ pub fn intro(alloc: Global, rest: Tree) -> Result<Tree, Fault>
     })
 }
 
-pub fn record_split(alloc: Global, at: u32, fam: u32, rest: Tree) -> Result<Tree, Fault>
-    ensures { IfOk result (λ t. (n : ℕ) → AllTree (λ i. i < n) rest → AllTree (λ i. i < n) t) }
+pub fn record_split(
+    alloc: Global,
+    pool: &TermPool,
+    at: u32,
+    fam: u32,
+    rest: Tree,
+) -> Result<Tree, Fault>
+    requires { TreeIn pool.now rest }
+    ensures { IfOk result (TreeIn pool.now) }
 {
     let rest = Box::new(alloc, rest)?;
     let fam = FamId::new(fam);
@@ -40,8 +47,8 @@ pub fn record_split(alloc: Global, at: u32, fam: u32, rest: Tree) -> Result<Tree
     })
 }
 
-pub fn absurd(at: u32) -> Tree
-    ensures { (n : ℕ) → AllTree (λ i. i < n) result }
+pub fn absurd(pool: &TermPool, at: u32) -> Tree
+    ensures { TreeIn pool.now result }
 {
     Tree {
         step: Step::Absurd { at },
@@ -49,8 +56,9 @@ pub fn absurd(at: u32) -> Tree
 }
 
 /// One branch, for a field.
-pub fn cosplit(alloc: Global, field: u32, rest: Tree) -> Result<Tree, Fault>
-    ensures { IfOk result (λ t. (n : ℕ) → AllTree (λ i. i < n) rest → AllTree (λ i. i < n) t) }
+pub fn cosplit(alloc: Global, pool: &TermPool, field: u32, rest: Tree) -> Result<Tree, Fault>
+    requires { TreeIn pool.now rest }
+    ensures { IfOk result (TreeIn pool.now) }
 {
     let field = FieldId::new(field);
     let branches = vec![in alloc; CoBranch { field, rest }]?;
@@ -60,8 +68,15 @@ pub fn cosplit(alloc: Global, field: u32, rest: Tree) -> Result<Tree, Fault>
 }
 
 /// The branch of a constructor that goes on with these variables.
-pub fn goes(alloc: Global, con: u32, keep: &[u32], rest: Tree) -> Result<ConBranch, Fault>
-    ensures { IfOk result (λ b. (n : ℕ) → AllTree (λ i. i < n) rest → IsBelow n b) }
+pub fn goes(
+    alloc: Global,
+    pool: &TermPool,
+    con: u32,
+    keep: &[u32],
+    rest: Tree,
+) -> Result<ConBranch, Fault>
+    requires { TreeIn pool.now rest }
+    ensures { IfOk result (BranchIn pool.now) }
 {
     let branch = Branch {
         context: Telescope {
@@ -77,8 +92,8 @@ pub fn goes(alloc: Global, con: u32, keep: &[u32], rest: Tree) -> Result<ConBran
 }
 
 /// The branch of a constructor that is refuted.
-pub fn refuted(con: u32) -> ConBranch
-    ensures { (n : ℕ) → IsBelow n result }
+pub fn refuted(pool: &TermPool, con: u32) -> ConBranch
+    ensures { BranchIn pool.now result }
 {
     ConBranch {
         con: ConId::new(con),
@@ -88,8 +103,16 @@ pub fn refuted(con: u32) -> ConBranch
 
 /// A split with two branches.
 #[tactic(auto, using(crate::proofs::Chains::branches))]
-pub fn split(alloc: Global, at: u32, first: ConBranch, second: ConBranch) -> Result<Tree, Fault>
-    ensures { IfOk result (λ t. (n : ℕ) → IsBelow n first → IsBelow n second → AllTree (λ i. i < n) t) }
+pub fn split(
+    alloc: Global,
+    pool: &TermPool,
+    at: u32,
+    first: ConBranch,
+    second: ConBranch,
+) -> Result<Tree, Fault>
+    requires first { BranchIn pool.now first }
+    requires second { BranchIn pool.now second }
+    ensures { IfOk result (TreeIn pool.now) }
 {
     let branches = vec![in alloc; first, second]?;
     Ok(Tree {

@@ -1,8 +1,7 @@
 ghost use Rattle.std.specs.Prelude.{◌<◌, length, IfOk};
 ghost use Rattle.core_terms.specs.Signature.{Stands};
 
-use crate::atoms::Atoms;
-use crate::declared::{add_bodies, declared};
+use crate::declared::{Bodies, declared};
 use crate::fault::Fault;
 use crate::metas::{Metas, Solved, is_chain};
 use crate::terms::is_in;
@@ -11,38 +10,33 @@ use std::alloc::Global;
 use std::io;
 use weak_head::{Head, head};
 
-/// A pool, the signature over it, and which metavariables are solved.
+/// A pool, the signature over it, its terms, and which metavariables are solved.
 #[derive(Drop)]
 pub struct World {
-    pub alloc: Global,
+    alloc: Global,
     pub pool: TermPool,
     pub sig: Signature,
-    pub metas: Metas,
+    bodies: Bodies,
+    metas: Metas,
 }
 
 impl World {
-    pub fn over(
-        alloc: Global,
-        pool: TermPool,
-        atoms: &Atoms,
-        metas: Metas,
-    ) -> Result<World, Fault>
+    pub fn over(alloc: Global, pool: TermPool, bodies: Bodies, metas: Metas) -> Result<World, Fault>
         ensures { IfOk result (λ w. Stands w.pool w.sig) }
     {
-        let mut pool = pool;
-        let bodies = add_bodies(&mut pool, atoms)?;
         let sig = declared(alloc, &pool, &bodies)?;
         Ok(World {
             alloc,
             pool,
             sig,
+            bodies,
             metas,
         })
     }
 
     /// Prints the head form of `t` with this fuel: which it is, its steps, and whether its term is
     /// `wanted`; and what it is with one step less.
-    pub fn run(
+    pub fn show_head(
         &mut self,
         rt: &HostRuntime,
         what: &str,
@@ -51,7 +45,6 @@ impl World {
         fuel: u32,
     ) -> Result<(), Fault>
         requires { Stands self.old.pool self.old.sig }
-        ensures { Stands self.new.pool self.new.sig }
     {
         let seen = self.head(t, fuel)?;
         print!(rt; "{what}: ")?;
@@ -65,10 +58,23 @@ impl World {
         Ok(())
     }
 
-    /// The number that `t` comes to, by one head form after the other, and the steps of all of them.
-    pub fn read(&mut self, atoms: &Atoms, t: TermId, fuel: u32) -> Result<(u32, u32), Fault>
+    /// Prints the number that `t` comes to, by one head form after the other, and the steps of all of them.
+    pub fn show_number(
+        &mut self,
+        rt: &HostRuntime,
+        what: &str,
+        t: TermId,
+        fuel: u32,
+    ) -> Result<(), Fault>
         requires { Stands self.old.pool self.old.sig }
-        ensures { Stands self.new.pool self.new.sig }
+    {
+        let (number, steps) = self.read(t, fuel)?;
+        println!(rt; "{what}: {number} in {steps} steps")?;
+        Ok(())
+    }
+
+    fn read(&mut self, t: TermId, fuel: u32) -> Result<(u32, u32), Fault>
+        requires { Stands self.old.pool self.old.sig }
     {
         let (mut at, mut steps) = (t, 0u32);
         for n in 0..u32::MAX {
@@ -76,10 +82,10 @@ impl World {
                 return Err(Fault::NoNumber);
             };
             steps = steps.saturating_add(used);
-            if term == atoms.zero {
+            if term == self.bodies.zero {
                 return Ok((n, steps));
             }
-            at = before(&self.pool, term, atoms.suc)?;
+            at = before(&self.pool, term, self.bodies.suc)?;
         }
         Err(Fault::NoNumber)
     }
@@ -133,10 +139,13 @@ fn before(pool: &TermPool, t: TermId, suc: TermId) -> Result<TermId, Fault> {
     if !is_in(pool, t) {
         return Err(Fault::Stray);
     }
-    match pool.node(t) {
-        Node::App { fun, arg, .. } if fun == suc => Ok(arg),
-        _ => Err(Fault::NoNumber),
+    let Node::App { fun, arg, .. } = pool.node(t) else {
+        return Err(Fault::NoNumber);
+    };
+    if fun != suc {
+        return Err(Fault::NoNumber);
     }
+    Ok(arg)
 }
 
 fn print_head(rt: &HostRuntime, seen: Head, wanted: TermId) -> io::Result<()> {
