@@ -1,0 +1,9 @@
+mod Verdicts
+mod Weights
+mod HeadParts
+mod Zip
+mod Fields
+mod Records
+mod Cuts
+mod Moves
+mod Turning

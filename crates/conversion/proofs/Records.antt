@@ -1,0 +1,78 @@
+-- The record whose constructor has all its fields, in the signature over ids and in that over trees.
+use Rattle.std.specs.Prelude.{◌≡◌, ◌≢◌, ℕ, zero, suc, ◌≤◌, ◌<◌, Bool, true, false, ◌&&◌, eqb, cond, List, [], ◌∷◌, length, map, slice_get, Option, Some, None, option_map, option_and_then, refl}
+use Rattle.std.proofs.Common.{arith, ap, ap₂, sym, ◌∙◌}
+use Rattle.std.proofs.lemmas.Grind.{common_steps}
+use Rattle.std.proofs.lemmas.List.{length-map}
+use Rattle.core_rules.specs.Term.{Term}
+use Rattle.core_rules.specs.Signature.{ConDecl, FamDecl, Signature, Telescope, con_place, con_decl, fam_decl}
+use Rattle.core_rules.specs.Mapped.{con_map, fam_map, entry_map}
+use Rattle.core_rules.specs.Elimination.{Elim, Arg, Field}
+use Rattle.core_rules.specs.Bounded.{RecordValue, fitting, record_value}
+use Rattle.core_rules.proofs.Heads.Mapped.{con_place-map, con_decl-map, fam_decl-map}
+use Rattle.core_terms.specs.Pool.{Pool, tree}
+use Rattle.core_terms.specs.Signature.{con_total, signature_in}
+use Rattle.weak_head.specs.Elims.{AreArgs, args_of}
+use Rattle.weak_head.proofs.Lookups.{no_con, no_fam}
+use Rattle.conversion.specs.Form.{first_takes, has_eta_with, value_of}
+
+fits : (c : Telescope Term) (es : List Elim) → AreArgs es → fitting c es ≡ cond (eqb (length c) (length es)) (Some (args_of es)) None
+fits [] [] h = refl
+fits [] (e ∷ es) h = refl
+fits (x ∷ c) [] h = refl
+fits (x ∷ c) (Field k ∷ es) h = absurd h.0
+fits (x ∷ c) (Arg b u ∷ es) h =
+    ap (option_map (λ us. u ∷ us)) (fits c es h.1)
+    ∙ elim (eqb (length c) (length es)) as (λ o. option_map (λ us. u ∷ us) (cond o (Some (args_of es)) None) ≡ cond o (Some (u ∷ args_of es)) None) [ true ↦ refl | false ↦ refl ]
+
+-- by the declarations of a constructor and its family, over trees
+abbrev by_con : (p : ℕ × ℕ) → List Elim → FamDecl Term → ConDecl Term → Option RecordValue
+by_con p es d c = cond (d.eta && eqb p.1 0) (option_map (λ us. record { fam = p.0; values = us }) (fitting c.args es)) None
+
+abbrev by_fam : Option (ConDecl Term) → List Elim → (p : ℕ × ℕ) → FamDecl Term → Option RecordValue
+by_fam o es p d = option_and_then (by_con p es d) o
+
+module _ (p : Pool) (g : Signature ℕ) (es : List Elim) (a : AreArgs es) where
+  value_by : (k : ℕ) (o : Option (ℕ × ℕ)) → con_place g k ≡ o → record_value (signature_in p g) k es ≡ option_and_then (λ r. option_and_then (by_fam (con_decl (signature_in p g) k) es r) (fam_decl (signature_in p g) r.0)) o
+  value_by k o e = ap (option_and_then (λ r. option_and_then (by_fam (con_decl (signature_in p g) k) es r) (fam_decl (signature_in p g) r.0))) (con_place-map (tree p) g k ∙ e)
+
+  pub value_past : (k : ℕ) → con_total g ≤ k → None ≡ record_value (signature_in p g) k es
+  value_past k h = sym (value_by k None (no_con p g k h))
+
+  not_first : (i j : ℕ) (o : Option (FamDecl Term)) (c : Option (ConDecl Term)) → j ≢ 0 → option_and_then (by_fam c es (i, j)) o ≡ None
+  not_first i j None c n = refl
+  not_first i j (Some d) None n = refl
+  not_first i j (Some d) (Some c) n =
+      let e : eqb j 0 ≡ false = grind (arith, common_steps) in
+      let x : Option RecordValue = option_map (λ us. record { fam = i; values = us }) (fitting c.args es) in
+      ap (λ b. cond (d.eta && b) x None) e ∙ elim d.eta as (λ b. cond (b && false) x None ≡ None) [ true ↦ refl | false ↦ refl ]
+
+  pub value_later : (k i j : ℕ) → con_place g k ≡ Some (i, j) → j ≢ 0 → None ≡ record_value (signature_in p g) k es
+  value_later k i j e n = sym (value_by k (Some (i, j)) e ∙ not_first i j (fam_decl (signature_in p g) i) (con_decl (signature_in p g) k) n)
+
+  pub value_stray : (k i j : ℕ) → con_place g k ≡ Some (i, j) → fam_decl g i ≡ None → None ≡ record_value (signature_in p g) k es
+  value_stray k i j e h = sym (value_by k (Some (i, j)) e ∙ ap (option_and_then (by_fam (con_decl (signature_in p g) k) es (i, j))) (fam_decl-map (tree p) g i ∙ ap (option_map (fam_map (tree p))) h))
+
+  decl_first : (k i : ℕ) (d : FamDecl ℕ) → con_place g k ≡ Some (i, 0) → fam_decl g i ≡ Some d → con_decl g k ≡ slice_get d.cons 0
+  decl_first k i d e h = ap (option_and_then (λ r. option_and_then (λ d. slice_get d.cons r.1) (fam_decl g r.0))) e ∙ ap (option_and_then (λ d. slice_get d.cons 0)) h
+
+  by_cons : (i : ℕ) (d : FamDecl Term) (e : Bool) (cs : List (ConDecl ℕ)) → d.eta ≡ e → by_fam (option_map (con_map (tree p)) (slice_get cs 0)) es (i, 0) d ≡ cond (e && first_takes cs (length es)) (Some (value_of es i)) None
+  by_cons i d e [] h = elim e as (λ b. ◌≡◌ {A = Option RecordValue} None (cond (b && false) (Some (value_of es i)) None)) [ true ↦ refl | false ↦ refl ]
+  by_cons i d e (c ∷ cs) h =
+      let x : ℕ = length c.args in
+      let args = map (entry_map (tree p)) c.args in
+      ap (λ b. cond (b && true) (option_map (λ us. record { fam = i; values = us }) (fitting args es)) None) h
+      ∙ ap (λ o. cond (e && true) (option_map (λ us. record { fam = i; values = us }) o) None) (fits args es a ∙ ap (λ n. cond (eqb n (length es)) (Some (args_of es)) None) (length-map c.args (entry_map (tree p))))
+      ∙ by_tests e (eqb x (length es))
+    where
+      by_tests : (b o : Bool) → cond (b && true) (option_map (λ us. record { fam = i; values = us }) (cond o (Some (args_of es)) None)) None ≡ cond (b && o) (Some (value_of es i)) None
+      by_tests true true = refl
+      by_tests true false = refl
+      by_tests false true = refl
+      by_tests false false = refl
+
+  pub value_first : (k i n : ℕ) (d : FamDecl ℕ) (b : Bool) → con_place g k ≡ Some (i, 0) → fam_decl g i ≡ Some d → length es ≡ n → b ≡ has_eta_with d n → cond b (Some (value_of es i)) None ≡ record_value (signature_in p g) k es
+  value_first k i n d b e h l t =
+      let x = con_decl-map (tree p) g k ∙ ap (option_map (con_map (tree p))) (decl_first k i d e h) in
+      let y = fam_decl-map (tree p) g i ∙ ap (option_map (fam_map (tree p))) h in
+      ap (λ b. cond b (Some (value_of es i)) None) (t ∙ ap (has_eta_with d) (sym l))
+      ∙ sym (value_by k (Some (i, 0)) e ∙ ap (option_and_then (by_fam (con_decl (signature_in p g) k) es (i, 0))) y ∙ ap (λ o. by_fam o es (i, 0) (fam_map (tree p) d)) x ∙ by_cons i (fam_map (tree p) d) d.eta d.cons refl)

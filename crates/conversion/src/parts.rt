@@ -1,0 +1,227 @@
+ghost use Rattle.std.specs.Prelude.{◌≡◌, ◌∷◌, [], ℕ, ◌<◌, length, cond, Some, IfOk, IfSome};
+ghost use Rattle.core_rules.specs.Term.{Term};
+ghost use Rattle.core_rules.specs.Signature.{fields_of};
+ghost use Rattle.core_rules.specs.Elimination.{elims};
+ghost use Rattle.core_rules.specs.Bounded.{Decision, Pair, Parts, applied, parts_or, same_flag};
+ghost use Rattle.core_terms.specs.Pool.{Extends, Pool, StandsFor, tree};
+ghost use Rattle.core_terms.specs.Signature.{Stands, signature_in};
+ghost use Rattle.weak_head.specs.Elims.{AllBelow, spine_in};
+ghost use Rattle.weak_head.specs.States.{AppliedBelow};
+ghost use Rattle.conversion.specs.Arguments.{AreLike};
+ghost use Rattle.conversion.specs.Forms.{by_cuts, by_field_of, by_kind_of, by_lambda_of};
+ghost use Rattle.conversion.specs.Part.{PartsBelow, parts_in};
+ghost use Rattle.conversion.specs.Spine.{CutBelow, cut_in};
+
+use crate::arguments::{Part, argument_parts, projected, same_flag};
+use crate::form::{Eta, Lambda, as_lambda, eta_of, kind_of};
+use crate::heads::head_parts;
+use crate::spine::{Cut, applied_to, last_field};
+use core_rules::Flag;
+use core_terms::{FamId, FieldId, NameId, NoMemory, Node, Signature, TermId, TermPool, shift};
+use std::alloc::Global;
+use weak_head::{Applied, Elim, applied};
+
+/// The parts of two forms, the first part last; none where they differ.
+pub(crate) fn parts_of(
+    alloc: Global,
+    pool: &mut TermPool,
+    sig: &Signature,
+    left: &Applied,
+    right: &Applied,
+) -> Result<Option<Vec<Part>>, NoMemory>
+    requires left { AppliedBelow (length pool.old.trees) left.now }
+    requires right { AppliedBelow (length pool.old.trees) right.now }
+    ensures extends { Extends pool.old pool.new }
+    ensures is { IfOk result (λ o. (q : Decision) → parts_or q (parts_in (tree pool.new) o)
+        ≡ by_lambda_of (tree pool.old) q (signature_in pool.old sig.now) left.now right.now) }
+    ensures below { IfOk result (PartsBelow (length pool.new.trees)) }
+{
+    match as_lambda(pool, left) {
+        Some(l) => match as_lambda(pool, right) {
+            Some(k) => bodies(alloc, l, k),
+            None => {
+                let other = applied_to_new(alloc, pool, l.flag, right)?;
+                one(alloc, l.name, l.body, other)
+            }
+        },
+        None => match as_lambda(pool, right) {
+            Some(k) => {
+                let other = applied_to_new(alloc, pool, k.flag, left)?;
+                one(alloc, k.name, other, k.body)
+            }
+            None => kind_parts(alloc, pool, sig, left, right),
+        },
+    }
+}
+
+/// The bodies of two lambdas of one flag.
+fn bodies(alloc: Global, left: Lambda, right: Lambda) -> Result<Option<Vec<Part>>, NoMemory>
+    ensures is { IfOk result (λ o. (f : ℕ → Term) (q : Decision) → parts_or q (parts_in f o)
+        ≡ cond (same_flag left.flag right.flag) (Parts (Pair (left.name ∷ []) (f left.body) (f right.body) ∷ [])) q) }
+    ensures below { IfOk result (λ o. (n : ℕ) → left.body < n → right.body < n → PartsBelow n o) }
+{
+    if same_flag(left.flag, right.flag) {
+        one(alloc, left.name, left.body, right.body)
+    } else {
+        Ok(None)
+    }
+}
+
+/// Two terms under a binder as the only part.
+fn one(
+    alloc: Global,
+    name: NameId,
+    left: TermId,
+    right: TermId,
+) -> Result<Option<Vec<Part>>, NoMemory>
+    ensures is { IfOk result (λ o. (f : ℕ → Term) → parts_in f o ≡ Some (Pair (name ∷ []) (f left) (f right) ∷ [])) }
+    ensures below { IfOk result (λ o. (n : ℕ) → left < n → right < n → PartsBelow n o) }
+{
+    let mut parts = Vec::new(alloc);
+    parts.push(Part {
+        binds: Some(name),
+        left,
+        right,
+    })?;
+    Ok(Some(parts))
+}
+
+/// A form applied to a new variable.
+fn applied_to_new(
+    alloc: Global,
+    pool: &mut TermPool,
+    flag: Flag,
+    term: &Applied,
+) -> Result<TermId, NoMemory>
+    requires { AppliedBelow (length pool.old.trees) term.now }
+    ensures extends { Extends pool.old pool.new }
+    ensures is { IfOk result (λ t. StandsFor pool.new t
+        (applied flag (tree pool.old term.now.head) (spine_in (tree pool.old) term.now.spine.items))) }
+{
+    let t = applied(pool, term)?;
+    let fun = shift(alloc, pool, t, 0, 1)?;
+    let arg = pool.add(Node::Var(0))?;
+    pool.add(Node::App { flag, fun, arg })
+}
+
+/// The parts of two forms that are no lambdas.
+fn kind_parts(
+    alloc: Global,
+    pool: &mut TermPool,
+    sig: &Signature,
+    left: &Applied,
+    right: &Applied,
+) -> Result<Option<Vec<Part>>, NoMemory>
+    requires left { AppliedBelow (length pool.old.trees) left.now }
+    requires right { AppliedBelow (length pool.old.trees) right.now }
+    ensures extends { Extends pool.old pool.new }
+    ensures is { IfOk result (λ o. (q : Decision) → parts_or q (parts_in (tree pool.new) o)
+        ≡ by_kind_of (tree pool.old) q (signature_in pool.old sig.now) left.now right.now) }
+    ensures below { IfOk result (PartsBelow (length pool.new.trees)) }
+{
+    match eta_of(kind_of(pool, sig, left), kind_of(pool, sig, right)) {
+        Eta::Left(fam) => {
+            let Some(other) = fields_like(alloc, pool, sig, fam, right, left)? else {
+                return Ok(None);
+            };
+            argument_parts(alloc, left.spine.as_slice(), other.as_slice())
+        }
+        Eta::Right(fam) => {
+            let Some(other) = fields_like(alloc, pool, sig, fam, left, right)? else {
+                return Ok(None);
+            };
+            argument_parts(alloc, other.as_slice(), right.spine.as_slice())
+        }
+        Eta::None => field_parts(alloc, pool, left, right),
+    }
+}
+
+/// The projections of `form` to the fields of a record, with the flags of `value`, where it has as many
+/// eliminations.
+fn fields_like(
+    alloc: Global,
+    pool: &mut TermPool,
+    sig: &Signature,
+    fam: FamId,
+    form: &Applied,
+    value: &Applied,
+) -> Result<Option<Vec<Elim>>, NoMemory>
+    requires { AppliedBelow (length pool.old.trees) form.now }
+    ensures extends { Extends pool.old pool.new }
+    ensures is { IfOk result (λ o. AreLike (tree pool.new) (fields_of (signature_in pool.old sig.now) fam)
+        (elims (tree pool.old form.now.head) (spine_in (tree pool.old) form.now.spine.items)) value.now.spine.items o) }
+    ensures below { IfOk result (λ o. IfSome o (λ xs. AllBelow (length pool.new.trees) xs.items)) }
+{
+    let of = applied(pool, form)?;
+    projected(alloc, pool, fields_of(sig, fam), of, value.spine.as_slice())
+}
+
+/// The fields of a record, in order.
+fn fields_of(sig: &Signature, fam: FamId) -> &[FieldId]
+    ensures { (p : Pool) → result.now ≡ fields_of (signature_in p sig.now) fam }
+{
+    if fam.number() >= sig.fams() {
+        return &[];
+    }
+    sig.fam(fam).fields.as_slice()
+}
+
+/// The parts of two forms by their last projections.
+fn field_parts(
+    alloc: Global,
+    pool: &mut TermPool,
+    left: &Applied,
+    right: &Applied,
+) -> Result<Option<Vec<Part>>, NoMemory>
+    requires left { AppliedBelow (length pool.old.trees) left.now }
+    requires right { AppliedBelow (length pool.old.trees) right.now }
+    ensures extends { Extends pool.old pool.new }
+    ensures is { IfOk result (λ o. (q : Decision) → parts_or q (parts_in (tree pool.new) o)
+        ≡ by_field_of (tree pool.old) q left.now right.now) }
+    ensures below { IfOk result (PartsBelow (length pool.new.trees)) }
+{
+    match last_field(left.spine.as_slice()) {
+        Some(c) => match last_field(right.spine.as_slice()) {
+            Some(d) => projection_parts(alloc, pool, left.head, &c, right.head, &d),
+            None => Ok(None),
+        },
+        None => match last_field(right.spine.as_slice()) {
+            Some(_) => Ok(None),
+            None => head_parts(alloc, pool, left, right),
+        },
+    }
+}
+
+/// The parts of two projections: what they are taken of, and the arguments after them.
+fn projection_parts(
+    alloc: Global,
+    pool: &mut TermPool,
+    left: TermId,
+    cut: &Cut<'_>,
+    right: TermId,
+    other: &Cut<'_>,
+) -> Result<Option<Vec<Part>>, NoMemory>
+    requires left { left < length pool.old.trees }
+    requires right { right < length pool.old.trees }
+    requires cut { CutBelow (length pool.old.trees) cut.now }
+    requires other { CutBelow (length pool.old.trees) other.now }
+    ensures extends { Extends pool.old pool.new }
+    ensures is { IfOk result (λ o. (q : Decision) → parts_or q (parts_in (tree pool.new) o)
+        ≡ by_cuts q (tree pool.old left) (cut_in (tree pool.old) cut.now) (tree pool.old right) (cut_in (tree pool.old) other.now)) }
+    ensures below { IfOk result (PartsBelow (length pool.new.trees)) }
+{
+    if cut.field != other.field {
+        return Ok(None);
+    }
+    let Some(mut parts) = argument_parts(alloc, cut.after, other.after)? else {
+        return Ok(None);
+    };
+    let left = applied_to(alloc, pool, left, cut.before)?;
+    let right = applied_to(alloc, pool, right, other.before)?;
+    parts.push(Part {
+        binds: None,
+        left,
+        right,
+    })?;
+    Ok(Some(parts))
+}
