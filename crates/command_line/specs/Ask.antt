@@ -2,7 +2,7 @@
 use Rattle.std.specs.Prelude.{◌≤◌, ◌&&◌, ℕ, Bool, List, [], ◌∷◌, Option, Some, None, option_map, option_and_then, codes, if◌then◌else◌}
 use Rattle.std.specs.Str.{bytes_eq}
 use Rattle.command_line.specs.declared.ask.Ask.{Ask}
-use Rattle.core_terms.specs.declared.telescope.Limits.{Limits}
+use Rattle.term_pool.specs.declared.limits.Limits.{Limits}
 use Rattle.command_line.specs.declared.ask.Mode.{Mode}
 use Rattle.command_line.specs.declared.ask.Mode.TheVariants.{Check, Session, Gen}
 use Rattle.command_line.specs.declared.limit.Limit.TheVariants.{Fuel, Depth, Order}

@@ -9,9 +9,9 @@ use crate::limit::Limit;
 use crate::number::value;
 use crate::rule::is_accepted;
 use clap::ArgMatches;
-use core_terms::Limits;
 use el_outside::{NoMemory, Text};
 use std::alloc::Global;
+use term_pool::Limits;
 
 /// What the words ask for.
 #[derive(Debug, Drop)]

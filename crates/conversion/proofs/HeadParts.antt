@@ -5,9 +5,9 @@ use Rattle.core_rules.specs.Term.{Term}
 use Rattle.core_rules.specs.Elimination.{Elim}
 use Rattle.core_rules.specs.Bounded as B
 use Rattle.core_rules.specs.Bounded.{Decision, Parts, Pair, argument_parts, parts_or, same_flag, same_heads}
-use Rattle.core_terms.specs.Pool.{node_tree}
-use Rattle.core_terms.specs.declared.node.Node.{Node}
-use Rattle.core_terms.specs.declared.node.Node.TheVariants as N
+use Rattle.term_pool.specs.Pool.{node_tree}
+use Rattle.term_pool.specs.declared.node.Node.{Node}
+use Rattle.term_pool.specs.declared.node.Node.TheVariants as N
 use Rattle.conversion.specs.declared.arguments.Part.{Part}
 use Rattle.conversion.specs.Part.{all_in}
 use Rattle.conversion.specs.Heads.{is_same_head, bare_parts}

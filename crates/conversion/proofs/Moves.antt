@@ -12,8 +12,8 @@ use Rattle.core_rules.specs.Heads.{Solutions, Bounded, HeadOf}
 use Rattle.core_rules.specs.Bounded as B
 use Rattle.core_rules.specs.Bounded.{Pair, below, InOrder, Decided, decide, AreSame, ByHeads, ConvOf}
 use Rattle.core_rules.proofs.Heads.OneVerdict.{conv_of_deeper}
-use Rattle.core_terms.specs.Pool.{Pool, tree, Extends}
-use Rattle.core_terms.specs.Growth.{Extends-length, Extends-tree}
+use Rattle.term_pool.specs.Pool.{Pool, tree, Extends}
+use Rattle.term_pool.specs.Growth.{Extends-length, Extends-tree}
 use Rattle.conversion.specs.declared.arguments.Part.{Part}
 use Rattle.conversion.specs.declared.outcome.Refusal.{Refusal}
 use Rattle.conversion.specs.declared.outcome.Refusal.TheVariants.{Differ, OutOfFuel, WaitsFor}

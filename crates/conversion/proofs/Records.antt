@@ -9,7 +9,7 @@ use Rattle.core_rules.specs.Mapped.{con_map, fam_map, entry_map}
 use Rattle.core_rules.specs.Elimination.{Elim, Arg, Field}
 use Rattle.core_rules.specs.Bounded.{RecordValue, fitting, record_value}
 use Rattle.core_rules.proofs.Heads.Mapped.{con_place-map, con_decl-map, fam_decl-map}
-use Rattle.core_terms.specs.Pool.{Pool, tree}
+use Rattle.term_pool.specs.Pool.{Pool, tree}
 use Rattle.core_terms.specs.Signature.{con_total, signature_in}
 use Rattle.weak_head.specs.Elims.{AreArgs, args_of}
 use Rattle.weak_head.proofs.Lookups.{no_con, no_fam}

@@ -5,10 +5,10 @@ use Rattle.el_base.proofs.Throughout.{all-reverse}
 use Rattle.core_rules.specs.Term.{Term}
 use Rattle.core_rules.specs.Signature.{Signature}
 use Rattle.core_rules.specs.Heads.{Solutions, Bounded, HeadOf}
-use Rattle.core_terms.specs.Pool.{Pool, Extends, tree}
+use Rattle.term_pool.specs.Pool.{Pool, Extends, tree}
 use Rattle.core_terms.specs.Signature.{Stands, signature_in}
 use Rattle.core_terms.specs.Solutions.{AreIn, solved_in, solved_in-stays}
-use Rattle.core_terms.specs.Growth.{Extends-tree}
+use Rattle.term_pool.specs.Growth.{Extends-tree}
 use Rattle.core_terms.proofs.SignatureGrowth.{signature_in-extends}
 use Rattle.conversion.specs.declared.outcome.Outcome.{Outcome}
 use Rattle.conversion.specs.declared.outcome.Outcome.TheVariants.{Parts}

@@ -3,7 +3,7 @@ use Rattle.std.specs.Prelude.{◌≡◌, ◌≢◌, ℕ, List, [], ◌∷◌, �
 use Rattle.std.proofs.Common.{ap, sym, append_assoc}
 use Rattle.core_rules.specs.Bounded as B
 use Rattle.core_rules.specs.Bounded.{below}
-use Rattle.core_terms.specs.Pool.{Pool}
+use Rattle.term_pool.specs.Pool.{Pool}
 use Rattle.conversion.specs.declared.conv.Conv.{Conv}
 use Rattle.conversion.specs.declared.conv.Conv.TheVariants as N
 use Rattle.conversion.specs.Conv.{IsVerdict}

@@ -2,7 +2,7 @@
 use Rattle.std.specs.Prelude.{ℕ, ◌<◌, List, length}
 use Rattle.core_rules.specs.Term.{Term}
 use Rattle.core_rules.specs.Bounded as B
-use Rattle.core_terms.specs.Pool.{Pool, tree}
+use Rattle.term_pool.specs.Pool.{Pool, tree}
 use Rattle.conversion.specs.declared.conv.Conv as C
 use Rattle.conversion.specs.declared.conv.Conv.TheVariants as N
 

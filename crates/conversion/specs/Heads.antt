@@ -2,8 +2,8 @@
 use Rattle.std.specs.Prelude.{ℕ, List, [], ◌∷◌, Bool, false, eqb, cond, Option, Some, None, option_map}
 use Rattle.std.specs.declared.vec.Vec.{Vec}
 use Rattle.core_rules.specs.Bounded.{same_flag}
-use Rattle.core_terms.specs.declared.node.Node.{Node}
-use Rattle.core_terms.specs.declared.node.Node.TheVariants as N
+use Rattle.term_pool.specs.declared.node.Node.{Node}
+use Rattle.term_pool.specs.declared.node.Node.TheVariants as N
 use Rattle.conversion.specs.declared.arguments.Part.{Part}
 
 -- one variable, function, type former or constructor

@@ -6,7 +6,7 @@ use Rattle.core_rules.specs.Signature.{Signature}
 use Rattle.core_rules.specs.Heads.{Solutions, Bounded, Within, Out, HeadOf}
 use Rattle.core_rules.specs.Bounded as B
 use Rattle.core_rules.specs.Bounded.{Verdict, Decision, decide}
-use Rattle.core_terms.specs.Pool.{Pool, tree}
+use Rattle.term_pool.specs.Pool.{Pool, tree}
 use Rattle.weak_head.specs.declared.answer.Reduced as R
 use Rattle.weak_head.specs.declared.answer.Reduced.TheVariants as RV
 use Rattle.weak_head.specs.States.{AppliedBelow, answer_in}

@@ -6,7 +6,7 @@ use Rattle.core_rules.specs.Signature.{Signature}
 use Rattle.core_rules.specs.Heads.{Solutions}
 use Rattle.core_rules.specs.Bounded as B
 use Rattle.core_rules.specs.Bounded.{below, ConvOf}
-use Rattle.core_terms.specs.Pool.{Pool, tree}
+use Rattle.term_pool.specs.Pool.{Pool, tree}
 use Rattle.conversion.specs.declared.arguments.Part.{Part}
 use Rattle.conversion.specs.declared.outcome.Refusal.{Refusal}
 use Rattle.conversion.specs.declared.pending.Work.{Work}

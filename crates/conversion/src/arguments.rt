@@ -1,7 +1,7 @@
 ghost use Rattle.std.specs.Prelude.{◌≡◌, ℕ, ◌<◌, length, option_map, IfOk, IfSome};
 ghost use Rattle.core_rules.specs.Term.{Term};
 ghost use Rattle.core_rules.specs.Bounded.{argument_parts, same_flag};
-ghost use Rattle.core_terms.specs.Pool.{Extends, tree};
+ghost use Rattle.term_pool.specs.Pool.{Extends, tree};
 ghost use Rattle.weak_head.specs.Elims.{AllBelow, Below, elim_in, spine_in};
 ghost use Rattle.conversion.specs.Part.{PartBelow, PartsBelow, part_in, parts_in};
 ghost use Rattle.conversion.specs.Arguments.{AreLike, argument_part, flag_of};

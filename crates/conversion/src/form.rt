@@ -2,7 +2,7 @@ ghost use Rattle.std.specs.Prelude.{◌≡◌, ℕ, ◌<◌, List, length, optio
 ghost use Rattle.core_rules.specs.Term.{Term};
 ghost use Rattle.core_rules.specs.Elimination.{Elim as Elimination};
 ghost use Rattle.core_rules.specs.Bounded.{kind, lambda, record_value};
-ghost use Rattle.core_terms.specs.Pool.{Pool, tree};
+ghost use Rattle.term_pool.specs.Pool.{Pool, tree};
 ghost use Rattle.core_terms.specs.Signature.{fam_of, signature_in};
 ghost use Rattle.weak_head.specs.Elims.{AreArgs, spine_in};
 ghost use Rattle.weak_head.specs.States.{AppliedBelow};

@@ -1,6 +1,6 @@
 ghost use Rattle.std.specs.Prelude.{◌≡◌, length, IfOk};
 ghost use Rattle.core_rules.specs.Bounded.{Decision, parts_or};
-ghost use Rattle.core_terms.specs.Pool.{tree};
+ghost use Rattle.term_pool.specs.Pool.{tree};
 ghost use Rattle.weak_head.specs.States.{AppliedBelow};
 ghost use Rattle.conversion.specs.Part.{PartsBelow, parts_in};
 ghost use Rattle.conversion.specs.Forms.{by_head_of};

@@ -3,7 +3,7 @@ ghost use Rattle.core_rules.specs.Term.{Term};
 ghost use Rattle.core_rules.specs.Signature.{fields_of};
 ghost use Rattle.core_rules.specs.Elimination.{elims};
 ghost use Rattle.core_rules.specs.Bounded.{Decision, Pair, Parts, applied, parts_or, same_flag};
-ghost use Rattle.core_terms.specs.Pool.{Extends, Pool, StandsFor, tree};
+ghost use Rattle.term_pool.specs.Pool.{Extends, Pool, StandsFor, tree};
 ghost use Rattle.core_terms.specs.Signature.{Stands, signature_in};
 ghost use Rattle.weak_head.specs.Elims.{AllBelow, spine_in};
 ghost use Rattle.weak_head.specs.States.{AppliedBelow};

@@ -2,7 +2,7 @@ ghost use Rattle.std.specs.Prelude.{◌≡◌, ℕ, ◌<◌, length, IfOk, IfSom
 ghost use Rattle.core_rules.specs.Term.{Term};
 ghost use Rattle.core_rules.specs.Elimination.{elims};
 ghost use Rattle.core_rules.specs.Bounded.{last_field};
-ghost use Rattle.core_terms.specs.Pool.{Extends, StandsFor, tree};
+ghost use Rattle.term_pool.specs.Pool.{Extends, StandsFor, tree};
 ghost use Rattle.weak_head.specs.Elims.{AllBelow, spine_in};
 ghost use Rattle.conversion.specs.Spine.{CutBelow, cut_in};
 

@@ -28,7 +28,7 @@ pub fn family(pool: &mut TermPool, number: u32) -> Result<TermId, Fault> {
 }
 
 /// A constructor without parameters.
-#[tactic(auto, using(core_terms::specs::Growth::growth))]
+#[tactic(auto, using(term_pool::specs::Growth::growth))]
 pub fn constructor(pool: &mut TermPool, number: u32) -> Result<TermId, Fault> {
     let params = pool.add_args(&[])?;
     let con = ConId::new(number);
@@ -36,7 +36,7 @@ pub fn constructor(pool: &mut TermPool, number: u32) -> Result<TermId, Fault> {
 }
 
 /// A constructor with one parameter.
-#[tactic(auto, using(core_terms::specs::Growth::growth))]
+#[tactic(auto, using(term_pool::specs::Growth::growth))]
 pub fn constructor_at(pool: &mut TermPool, number: u32, param: TermId) -> Result<TermId, Fault> {
     if !is_in(pool, param) {
         return Err(Fault::Stray);
@@ -47,7 +47,7 @@ pub fn constructor_at(pool: &mut TermPool, number: u32, param: TermId) -> Result
 }
 
 /// A metavariable at no arguments.
-#[tactic(auto, using(core_terms::specs::Growth::growth))]
+#[tactic(auto, using(term_pool::specs::Growth::growth))]
 pub fn metavariable(pool: &mut TermPool, number: u32) -> Result<TermId, Fault> {
     let args = pool.add_args(&[])?;
     let meta = MetaId::new(number);

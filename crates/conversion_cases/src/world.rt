@@ -1,7 +1,7 @@
 ghost use Rattle.std.specs.Prelude.{◌<◌, length, IsTrue};
 ghost use Rattle.core_rules.specs.InScope.{IsAcyclic};
 ghost use Rattle.core_rules.specs.Term.{AllMetas};
-ghost use Rattle.core_terms.specs.Pool.{tree};
+ghost use Rattle.term_pool.specs.Pool.{tree};
 ghost use Rattle.core_terms.specs.Signature.{Stands};
 ghost use Rattle.core_terms.specs.Solutions.{AreIn, solved_in};
 ghost use Rattle.conversion_cases.specs.Solved.{first_solved};

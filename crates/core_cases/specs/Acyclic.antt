@@ -4,7 +4,7 @@ use Rattle.std.proofs.Common.{sym, ◌∙◌, subst}
 use Rattle.std.proofs.lemmas.Option.{same_Some}
 use Rattle.core_rules.specs.Term.{Term, Sort, AllMetas}
 use Rattle.core_rules.specs.InScope.{IsAcyclic}
-use Rattle.core_terms.specs.Pool.{Pool, tree}
+use Rattle.term_pool.specs.Pool.{Pool, tree}
 use Rattle.core_terms.specs.Solutions.{AreIn, solved_in}
 
 -- m has the solution i

@@ -1,6 +1,6 @@
 ghost use Rattle.std.specs.Prelude.{◌≡◌, ◌<◌, length, IfOk};
 ghost use Rattle.core_rules.specs.Term.{Sort};
-ghost use Rattle.core_terms.specs.Pool.{Extends, tree};
+ghost use Rattle.term_pool.specs.Pool.{Extends, tree};
 ghost use Rattle.core_cases.specs.Acyclic.{one};
 
 use crate::fault::Fault;
@@ -67,7 +67,7 @@ fn chain_of(pool: &mut TermPool, t: TermId, arg: TermId) -> Result<TermId, NoMem
 }
 
 /// The metavariable that is solved, applied to nothing.
-#[tactic(auto, using(core_terms::specs::Growth::growth))]
+#[tactic(auto, using(term_pool::specs::Growth::growth))]
 fn hole(pool: &mut TermPool) -> Result<TermId, NoMemory>
     ensures extends { Extends pool.old pool.new }
     ensures within { IfOk result (λ r. r < length pool.new.trees) }
@@ -157,7 +157,7 @@ pub fn doubled(rt: &HostRuntime) -> Result<(), Fault> {
     print_doubled(rt, &mut pool)
 }
 
-#[tactic(auto, using(core_terms::specs::Growth::growth))]
+#[tactic(auto, using(term_pool::specs::Growth::growth))]
 fn print_doubled(rt: &HostRuntime, pool: &mut TermPool) -> Result<(), Fault> {
     let term = print_term(rt, pool)?;
     let closed = print_changed(rt, pool, term)?;
@@ -168,7 +168,7 @@ fn print_doubled(rt: &HostRuntime, pool: &mut TermPool) -> Result<(), Fault> {
 }
 
 /// The doubled variable.
-#[tactic(auto, using(core_terms::specs::Growth::growth))]
+#[tactic(auto, using(term_pool::specs::Growth::growth))]
 fn print_term(rt: &HostRuntime, pool: &mut TermPool) -> Result<TermId, Fault>
     ensures extends { Extends pool.old pool.new }
     ensures within { IfOk result (λ r. r < length pool.new.trees) }
@@ -180,7 +180,7 @@ fn print_term(rt: &HostRuntime, pool: &mut TermPool) -> Result<TermId, Fault>
 }
 
 /// The term under the sort, after the other changes of it.
-#[tactic(auto, using(core_terms::specs::Growth::growth))]
+#[tactic(auto, using(term_pool::specs::Growth::growth))]
 fn print_changed(rt: &HostRuntime, pool: &mut TermPool, term: TermId) -> Result<TermId, Fault>
     requires { term < length pool.old.trees }
     ensures extends { Extends pool.old pool.new }
@@ -203,7 +203,7 @@ fn print_raised(rt: &HostRuntime, pool: &mut TermPool, term: TermId) -> Result<(
 }
 
 /// The term with the sort for the variable.
-#[tactic(auto, using(core_terms::specs::Growth::growth))]
+#[tactic(auto, using(term_pool::specs::Growth::growth))]
 fn print_replaced(rt: &HostRuntime, pool: &mut TermPool, term: TermId) -> Result<TermId, Fault>
     requires { term < length pool.old.trees }
     ensures { Extends pool.old pool.new }
@@ -214,7 +214,7 @@ fn print_replaced(rt: &HostRuntime, pool: &mut TermPool, term: TermId) -> Result
     Ok(replaced)
 }
 
-#[tactic(auto, using(core_terms::specs::Growth::growth))]
+#[tactic(auto, using(term_pool::specs::Growth::growth))]
 fn closed(alloc: Global, pool: &mut TermPool, t: TermId) -> Result<TermId, NoMemory>
     requires { t < length pool.old.trees }
     ensures extends { Extends pool.old pool.new }
@@ -225,7 +225,7 @@ fn closed(alloc: Global, pool: &mut TermPool, t: TermId) -> Result<TermId, NoMem
 }
 
 /// The doubled metavariable.
-#[tactic(auto, using(core_terms::specs::Growth::growth))]
+#[tactic(auto, using(term_pool::specs::Growth::growth))]
 fn print_waiting(rt: &HostRuntime, pool: &mut TermPool) -> Result<TermId, Fault>
     ensures extends { Extends pool.old pool.new }
     ensures within { IfOk result (λ r. r < length pool.new.trees) }
@@ -236,7 +236,7 @@ fn print_waiting(rt: &HostRuntime, pool: &mut TermPool) -> Result<TermId, Fault>
     Ok(waiting)
 }
 
-#[tactic(auto, using(core_terms::specs::Growth::growth))]
+#[tactic(auto, using(term_pool::specs::Growth::growth))]
 fn print_instance(
     rt: &HostRuntime,
     pool: &mut TermPool,
@@ -253,7 +253,7 @@ fn print_instance(
     Ok(())
 }
 
-#[tactic(auto, using(core_terms::specs::Growth::growth))]
+#[tactic(auto, using(term_pool::specs::Growth::growth))]
 fn print_compared(
     rt: &HostRuntime,
     pool: &mut TermPool,
@@ -278,7 +278,7 @@ pub fn apart(rt: &HostRuntime) -> Result<(), Fault> {
     print_apart(rt, &mut pool)
 }
 
-#[tactic(auto, using(core_terms::specs::Growth::growth))]
+#[tactic(auto, using(term_pool::specs::Growth::growth))]
 fn print_apart(rt: &HostRuntime, pool: &mut TermPool) -> Result<(), Fault> {
     let first = doubled_type(pool, 1)?;
     let second = doubled_type(pool, 2)?;
@@ -291,7 +291,7 @@ fn print_apart(rt: &HostRuntime, pool: &mut TermPool) -> Result<(), Fault> {
 }
 
 /// A function type whose binder has this name, doubled.
-#[tactic(auto, using(core_terms::specs::Growth::growth))]
+#[tactic(auto, using(term_pool::specs::Growth::growth))]
 fn doubled_type(pool: &mut TermPool, name: u32) -> Result<TermId, NoMemory>
     ensures extends { Extends pool.old pool.new }
     ensures within { IfOk result (λ r. r < length pool.new.trees) }
@@ -315,7 +315,7 @@ pub fn chain(rt: &HostRuntime) -> Result<(), Fault> {
     print_waiting_chain(rt, &mut pool)
 }
 
-#[tactic(auto, using(core_terms::specs::Growth::growth))]
+#[tactic(auto, using(term_pool::specs::Growth::growth))]
 fn print_chain(rt: &HostRuntime, pool: &mut TermPool) -> Result<(), Fault> {
     let variable = pool.add(Node::Var(0))?;
     let term = chain_of(pool, variable, variable)?;
@@ -323,7 +323,7 @@ fn print_chain(rt: &HostRuntime, pool: &mut TermPool) -> Result<(), Fault> {
     print_raised(rt, pool, term)
 }
 
-#[tactic(auto, using(core_terms::specs::Growth::growth))]
+#[tactic(auto, using(term_pool::specs::Growth::growth))]
 fn print_waiting_chain(rt: &HostRuntime, pool: &mut TermPool) -> Result<(), Fault> {
     let hole = hole(pool)?;
     let set = pool.add(Node::Sort(0))?;
@@ -332,7 +332,7 @@ fn print_waiting_chain(rt: &HostRuntime, pool: &mut TermPool) -> Result<(), Faul
     print_chain_instance(rt, pool, waiting)
 }
 
-#[tactic(auto, using(core_terms::specs::Growth::growth))]
+#[tactic(auto, using(term_pool::specs::Growth::growth))]
 fn print_chain_instance(rt: &HostRuntime, pool: &mut TermPool, waiting: TermId) -> Result<(), Fault>
     requires { waiting < length pool.old.trees }
 {

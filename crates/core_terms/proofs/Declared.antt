@@ -413,7 +413,7 @@ front-fam ks js ds fs gs f h k e b =
     let n : length js - 1 ≡ length (woven ks ds fs) = omega (arith, ap length e, length-append ks (K.Fam ∷ []), length_woven ks ds fs h k) in
     sym (ap₂ take n (ap₂ (λ xs ys. woven xs ds ys) e b ∙ woven-fam ks ds fs f h k) ∙ take-append_seam (woven ks ds fs) _)
 
--- what was put behind a list goes again
+-- what was put after a list goes again
 pub cut_back : (xs ys zs ws : List (ℕ × ℕ)) (n : ℕ) → ys ≡ xs ++ zs → n ≡ length xs → ws ≡ take n ys → ws ≡ xs
 cut_back xs ys zs ws n e l k = k ∙ (ap₂ take l e ∙ take-append_seam xs zs)
 

@@ -7,14 +7,14 @@ use Rattle.core_rules.specs.InScope.{IsAcyclic}
 use Rattle.core_rules.specs.Bounded.{full}
 use Rattle.core_rules.specs.BoundedLaws.{IsFull}
 use Rattle.core_rules.proofs.Heads.FullSolutions.{full_is_full}
-use Rattle.core_terms.specs.declared.node.Node.{Node}
-use Rattle.core_terms.specs.declared.node.Node.TheVariants as N
-use Rattle.core_terms.specs.Lists.{list, items, IsList, items_list}
-use Rattle.core_terms.specs.Measures.{has_meta, has_meta_in}
-use Rattle.core_terms.specs.Node.{with_two}
-use Rattle.core_terms.specs.Pool.{Pool, tree, args, node_tree, IsArgs, Below, Extends}
-use Rattle.core_terms.specs.Growth.{Extends-length, Extends-tree}
-use Rattle.core_terms.specs.Table.{Results, Puts}
+use Rattle.term_pool.specs.declared.node.Node.{Node}
+use Rattle.term_pool.specs.declared.node.Node.TheVariants as N
+use Rattle.term_pool.specs.Lists.{list, items, IsList, items_list}
+use Rattle.term_pool.specs.Measures.{has_meta, has_meta_in}
+use Rattle.term_pool.specs.Node.{with_two}
+use Rattle.term_pool.specs.Pool.{Pool, tree, args, node_tree, IsArgs, Below, Extends}
+use Rattle.term_pool.specs.Growth.{Extends-length, Extends-tree}
+use Rattle.term_pool.specs.Table.{Results, Puts}
 use Rattle.core_terms.specs.Solutions.{solved_in, AreIn, IsInstance, AreInstances, IsInstance-stays, solution_or, wanted, is_solved}
 
 replace_list : (f : ℕ → Option Term) (ts : Terms) → replace f (list ts) ≡ list (replace_all f ts)

@@ -1,13 +1,4 @@
-pub mod Measured
-pub mod Trees
-pub mod Seen
 pub mod Declared
-pub mod Turns
-pub mod Shifts
 pub mod Mapped
 pub mod SignatureGrowth
-pub mod Plain
-pub mod Once
-pub mod Kept
-pub mod ArgLists
 pub mod Instances

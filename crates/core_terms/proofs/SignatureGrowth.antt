@@ -8,8 +8,8 @@ use Rattle.core_rules.specs.Mapped.{decl_map, signature_map}
 use Rattle.core_terms.specs.declared.signature.DefEntry.{DefEntry}
 use Rattle.core_terms.specs.declared.signature.DefState.{DefState}
 use Rattle.core_terms.specs.declared.signature.DefState.TheVariants as S
-use Rattle.core_terms.specs.Pool.{Pool, tree, Extends}
-use Rattle.core_terms.specs.Growth.{Extends-length, Extends-tree}
+use Rattle.term_pool.specs.Pool.{Pool, tree, Extends}
+use Rattle.term_pool.specs.Growth.{Extends-length, Extends-tree}
 use Rattle.core_terms.specs.Signature.{entry_decl, state_decl, Stands, signature_in}
 use Rattle.core_terms.proofs.Mapped.{signature_map-same, AllDecls-weaker}
 

@@ -1,15 +1,4 @@
-pub mod Lists
-pub mod Reach
-pub mod Measures
-pub mod Node
-pub mod Pool
-pub mod Growth
 pub mod Signature
-pub mod Table
-pub mod Change
-pub mod Placed
-pub mod Shifted
-pub mod Count
 pub mod Solutions
 pub mod Coded
 pub mod Sizes

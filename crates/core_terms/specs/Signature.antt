@@ -9,7 +9,7 @@ use Rattle.core_terms.specs.declared.signature.CoreDecl.TheVariants as C
 use Rattle.core_terms.specs.declared.signature.DefState.{DefState}
 use Rattle.core_terms.specs.declared.signature.DefState.TheVariants as S
 use Rattle.core_terms.specs.declared.signature.DefEntry.{DefEntry}
-use Rattle.core_terms.specs.Pool.{Pool, tree}
+use Rattle.term_pool.specs.Pool.{Pool, tree}
 
 -- the family that a declaration is, where it is one
 abbrev pub fam_of : CoreDecl → FamDecl ℕ

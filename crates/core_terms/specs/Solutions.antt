@@ -4,11 +4,11 @@ use Rattle.std.proofs.Common.{ap, arith}
 use Rattle.core_rules.specs.Term.{Term}
 use Rattle.core_rules.specs.Substitution.{replace}
 use Rattle.core_rules.specs.BoundedLaws.{IsFull}
-use Rattle.core_terms.specs.declared.node.Node.{Node}
-use Rattle.core_terms.specs.declared.node.Node.TheVariants as N
-use Rattle.core_terms.specs.Pool.{Pool, tree, Extends}
-use Rattle.core_terms.specs.Growth.{Extends-length, Extends-tree, Extends-StandsFor}
-use Rattle.core_terms.specs.Table.{Results, found}
+use Rattle.term_pool.specs.declared.node.Node.{Node}
+use Rattle.term_pool.specs.declared.node.Node.TheVariants as N
+use Rattle.term_pool.specs.Pool.{Pool, tree, Extends}
+use Rattle.term_pool.specs.Growth.{Extends-length, Extends-tree, Extends-StandsFor}
+use Rattle.term_pool.specs.Table.{Results, found}
 
 -- the solution of each metavariable as a tree
 abbrev pub solved_in : Pool → (ℕ → Option ℕ) → ℕ → Option Term

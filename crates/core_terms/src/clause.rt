@@ -1,8 +1,7 @@
-use crate::Row;
-use crate::ids::{NameId, TermId};
 use crate::pattern::CorePat;
 use crate::telescope::Telescope;
 use std::marker::Model;
+use term_pool::{NameId, Row, TermId};
 
 /// A written name that stands for a value.
 #[derive(Clone, Copy, Debug, PartialEq, Eq, Drop)]

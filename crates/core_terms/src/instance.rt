@@ -4,21 +4,16 @@ ghost use Rattle.core_rules.specs.InScope.{IsAcyclic};
 ghost use Rattle.core_rules.specs.Bounded.{AreSame};
 ghost use Rattle.core_rules.specs.Term.{env_of};
 ghost use Rattle.core_rules.specs.Substitution.{under};
-ghost use Rattle.core_terms.specs.Pool.{args as args_lem, Below, Extends, IsArgs, StandsFor, node_tree, tree};
+ghost use Rattle.term_pool.specs.Pool.{args as args_lem, Below, Extends, IsArgs, StandsFor, node_tree, tree};
 ghost use Rattle.core_terms.specs.Solutions.{AreIn, AreInstances, IsInstance, is_solved as is_solved_lem, solved_in, wanted};
 
-use crate::NoMemory;
-use crate::ids::TermId;
-use crate::node::{Args, Node, Parts};
-use crate::pool::TermPool;
-use crate::shifting::under;
 use crate::solutions::Solutions;
-use crate::table::Table;
 use std::alloc::Global;
+use term_pool::{Args, NoMemory, Node, Parts, Table, TermId, TermPool, under};
 
 /// The term with solved metavariables replaced, in their solutions too. It works once for each shared
 /// node, and a term in which no metavariable stands is not walked at all. A variable that would reach
-/// 2^32 is want of memory.
+/// 2^32 is out of memory.
 pub fn instantiate<S: Solutions>(
     alloc: Global,
     pool: &mut TermPool,

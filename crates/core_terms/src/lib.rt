@@ -1,41 +1,27 @@
-//! Shared core terms by id, the texts of their names, and the signature of the declarations that
-//! they speak of.
+//! What solved metavariables make of terms, and the signature of the declarations that terms speak of,
+//! with their clauses and case trees.
 //!
-//! A [`TermPool`] keeps each node once and names it by a [`TermId`]; contracts see the tree that an
-//! id stands for. Everything above works on ids, and reads in contracts as if it worked on trees.
+//! The terms themselves, by id, are those of `term_pool`, and all of it is passed on: a layer above
+//! uses this crate alone, or `term_pool` alone where it needs no declarations.
 #![tactic(auto)]
 
-mod args;
-mod change;
 mod clause;
-mod count;
-mod ids;
 mod instance;
-mod measures;
-mod names;
-mod node;
 mod pattern;
-mod pool;
-mod shifting;
 mod signature;
 mod solutions;
-mod table;
 mod telescope;
-mod traversal;
 mod tree;
 
 pub use clause::{CheckedLeft, ConDecl, CoreClause, Dot, Solved};
-pub use count::{Count, count_nodes};
-pub use el_base::{Many as Row, NoMemory};
-pub use ids::{ConId, DefId, FamId, FieldId, MetaId, NameId, TermId};
 pub use instance::{instantiate, same_term};
-pub use measures::{MOST_LEVELS, MOST_NODES};
-pub use names::Names;
-pub use node::{Args, Node, Parts};
 pub use pattern::{Braces, CorePat, Origin, PatShape};
-pub use pool::{PoolMark, TermPool};
-pub use shifting::{fill, shift, subst, under};
 pub use signature::{CoreDecl, DefEntry, DefState, FamEntry, SigMark, Signature};
 pub use solutions::{NoSolutions, Solutions};
-pub use telescope::{Entry, Limits, Telescope};
+pub use telescope::{Entry, Telescope};
+pub use term_pool::{
+    Args, ConId, Count, DefId, FamId, FieldId, Limits, MOST_LEVELS, MOST_NODES, MetaId, NameId,
+    Names, NoMemory, Node, Parts, PoolMark, Row, TermId, TermPool, count_nodes, fill, shift, subst,
+    under,
+};
 pub use tree::{Branch, CoBranch, ConBranch, Step, Tree, Way};

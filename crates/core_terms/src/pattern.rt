@@ -1,5 +1,5 @@
-use crate::ids::{ConId, FieldId, NameId, TermId};
 use std::marker::Model;
+use term_pool::{ConId, FieldId, NameId, TermId};
 
 /// Where a pattern comes from. `Variable` is a written variable, and `fresh` says that its name is
 /// new, that no clause has it.

@@ -4,12 +4,11 @@ ghost use Rattle.core_terms.specs.Woven.{AreDeclared, woven};
 ghost use Rattle.core_terms.specs.Signature.{IsOpen, closed_at, closed_entry, decl_of, entry_decl, fam_of, con_total, field_total, places_of};
 
 use crate::clause::{ConDecl, CoreClause};
-use crate::ids::{ConId, DefId, FamId, FieldId, NameId, TermId};
 use crate::telescope::Telescope;
 use crate::tree::Tree;
-use crate::{NoMemory, Row};
 use std::alloc::Global;
 use std::marker::Model;
+use term_pool::{ConId, DefId, FamId, FieldId, NameId, NoMemory, Row, TermId};
 
 /// A finished declaration. `is_record` is true exactly of a record, which has one constructor and no
 /// indices; a data type has no fields, and its `eta` and `coinductive` are false.
@@ -137,7 +136,7 @@ impl Signature {
         })
     }
 
-    /// Gives the declaration, its constructors and its fields the next ids. After want of memory the
+    /// Gives the declaration, its constructors and its fields the next ids. Where memory runs out, the
     /// signature is as before.
     pub fn add(&mut self, decl: CoreDecl) -> Result<(), NoMemory>
         ensures ok { OnOk result (self.new ≡ self.old ++ decl_of decl ∷ []) }
@@ -188,7 +187,7 @@ impl Signature {
         }
     }
 
-    /// A function that is known without clauses and tree. After want of memory the signature is as
+    /// A function that is known without clauses and tree. Where memory runs out, the signature is as
     /// before.
     pub fn add_open(&mut self, name: NameId, ty: TermId) -> Result<DefId, NoMemory>
         ensures id { IfOk result (λ d. d ≡ length (defs self.old)) }

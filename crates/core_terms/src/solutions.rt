@@ -1,6 +1,6 @@
 ghost use Rattle.std.specs.Prelude.{◌≡◌, ℕ, Option, None};
 
-use crate::ids::{MetaId, TermId};
+use term_pool::{MetaId, TermId};
 
 /// What metavariables stand for. The solution of a metavariable stands in the context of its
 /// arguments: its variable 0 is the last of them.

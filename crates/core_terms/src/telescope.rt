@@ -1,7 +1,6 @@
-use crate::Row;
-use crate::ids::{NameId, TermId};
 use core_rules::Flag;
 use std::marker::Model;
+use term_pool::{NameId, Row, TermId};
 
 /// One variable with its type.
 #[derive(Clone, Copy, Debug, PartialEq, Eq)]
@@ -43,13 +42,4 @@ impl Model for Telescope {
     ghost coded = { coded_list coded_entry_ids };
 
     ghost view = { λ t. t.entries };
-}
-
-/// How far a call may go: head steps of one head form, levels of one conversion, and the order of the
-/// machine's moves.
-#[derive(Clone, Copy, Debug, PartialEq, Eq)]
-pub struct Limits {
-    pub fuel: u32,
-    pub depth: u32,
-    pub order: u64,
 }

@@ -1,7 +1,6 @@
-use crate::Row;
-use crate::ids::{ConId, FamId, FieldId, TermId};
 use crate::telescope::Telescope;
 use std::marker::Model;
+use term_pool::{ConId, FamId, FieldId, Row, TermId};
 
 /// A case tree. Contracts see the tree of the rules over ids.
 #[cycle(tree)]

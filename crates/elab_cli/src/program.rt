@@ -7,11 +7,11 @@ ghost use Rattle.elab_cli.specs.Said.{HasSaid, Sends, Tells};
 
 use crate::Status;
 use command_line::{Ask, Mode, WordsError, read_words};
-use core_terms::Limits;
 use el_outside::{FileRead, Files, NoMemory, PutError, Sink, Source};
 use file_load::{Loaded, load};
 use session_text::{Report, error_bytes, report_bytes};
 use std::alloc::Global;
+use term_pool::Limits;
 
 /// The most bytes that a text may have.
 const LIMIT: u32 = 1_048_576;

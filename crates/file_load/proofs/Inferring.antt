@@ -15,8 +15,8 @@ use Rattle.core_rules.specs.Typing.{entry}
 use Rattle.core_terms.specs.declared.signature.DefEntry.{DefEntry}
 use Rattle.core_terms.specs.declared.signature.DefState.{DefState}
 use Rattle.core_terms.specs.declared.signature.DefState.TheVariants as state
-use Rattle.core_terms.specs.Pool.{Pool, Extends, StandsFor, tree}
-use Rattle.core_terms.specs.Growth.{Extends-length, Extends-tree}
+use Rattle.term_pool.specs.Pool.{Pool, Extends, StandsFor, tree}
+use Rattle.term_pool.specs.Growth.{Extends-length, Extends-tree}
 use Rattle.core_terms.specs.Signature.{entry_decl, state_decl, Stands, signature_in}
 use Rattle.core_terms.proofs.SignatureGrowth.{signature_in-extends, Stands-extends, entry_type_in, def_type-map}
 use Rattle.file_load.specs.Accept.{applied, at_argument, level_of, sort_level, sort_of_pi, type_of}

@@ -8,8 +8,8 @@ use Rattle.el_base.proofs.Lists.{drop_next}
 use Rattle.core_rules.specs.Term.{Term}
 use Rattle.core_rules.specs.Signature.{Signature, Postulate}
 use Rattle.core_rules.specs.Mapped.{decl_map}
-use Rattle.core_terms.specs.Pool.{Pool, tree, Extends}
-use Rattle.core_terms.specs.Growth.{Extends-length, Extends-tree, Extends-trans}
+use Rattle.term_pool.specs.Pool.{Pool, tree, Extends}
+use Rattle.term_pool.specs.Growth.{Extends-length, Extends-tree, Extends-trans}
 use Rattle.core_terms.specs.Signature.{Stands, signature_in}
 use Rattle.core_terms.proofs.SignatureGrowth.{signature_in-extends, Stands-extends}
 use Rattle.resolved_tree.specs.declared.resolved.ResolvedName.{ResolvedName}

@@ -7,7 +7,7 @@ use Rattle.std.proofs.lemmas.Bool.Decides.{nat_tests}
 use Rattle.el_outside.specs.Place.{Place}
 use Rattle.core_rules.specs.Signature.{Signature, Postulate, Family, Open, Function, defs}
 use Rattle.core_rules.specs.Mapped.{decl_map}
-use Rattle.core_terms.specs.Pool.{tree}
+use Rattle.term_pool.specs.Pool.{tree}
 use Rattle.source_tree.specs.declared.decl.File.{File}
 use Rattle.file_load.specs.declared.state.Core.{Core}
 use Rattle.session_text.specs.declared.error.LoadError.{LoadError}

@@ -6,8 +6,8 @@ use Rattle.std.proofs.lemmas.List.{map-append}
 use Rattle.core_rules.specs.declared.Flag.TheVariants.{Explicit}
 use Rattle.core_rules.specs.Term.{Term, Pi}
 use Rattle.core_rules.specs.Substitution.{shift}
-use Rattle.core_terms.specs.Pool.{Pool, Extends, StandsFor, tree}
-use Rattle.core_terms.specs.Growth.{Extends-tree}
+use Rattle.term_pool.specs.Pool.{Pool, Extends, StandsFor, tree}
+use Rattle.term_pool.specs.Growth.{Extends-tree}
 use Rattle.resolved_tree.specs.declared.resolved.ResolvedName.{ResolvedName}
 use Rattle.resolved_tree.specs.declared.resolved.ResolvedExpr.{ResolvedExpr, fold_out-ResolvedExpr, out-ResolvedExpr, map-ResolvedExpr, roll-ResolvedExpr, out-roll-ResolvedExpr}
 use Rattle.resolved_tree.specs.declared.resolved.ResolvedExpr.TheVariants as r

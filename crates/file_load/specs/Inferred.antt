@@ -4,7 +4,7 @@ use Rattle.std.specs.List.{AllByRecursion}
 use Rattle.core_rules.specs.Term.{Term, App}
 use Rattle.core_rules.specs.Signature.{Entry, Context, Signature, onto}
 use Rattle.core_rules.specs.Mapped.{AllEntries, telescope_map}
-use Rattle.core_terms.specs.Pool.{Pool, tree}
+use Rattle.term_pool.specs.Pool.{Pool, tree}
 use Rattle.core_terms.specs.Signature.{Stands, signature_in}
 use Rattle.file_load.specs.Accept.{type_of}
 use Rattle.file_load.specs.declared.infer.Argument.{Argument}

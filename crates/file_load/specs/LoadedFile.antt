@@ -1,7 +1,7 @@
 -- What contracts see of a loaded file, and of the answer to a text.
 use Rattle.std.specs.Prelude.{ℕ, List, ⊤, Ok, Err}
 use Rattle.core_rules.specs.Signature.{Signature}
-use Rattle.core_terms.specs.Pool.{Pool}
+use Rattle.term_pool.specs.Pool.{Pool}
 use Rattle.core_terms.specs.Signature.{Stands, signature_in}
 use Rattle.session_text.specs.declared.report.Report.{Report}
 use Rattle.file_load.specs.declared.loaded_file.LoadedFile.{LoadedFile}

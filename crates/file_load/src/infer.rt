@@ -7,7 +7,7 @@ ghost use Rattle.core_rules.specs.Term.{Pi, Sort};
 ghost use Rattle.core_rules.specs.Signature.{def_type};
 ghost use Rattle.core_rules.specs.Mapped.{AllEntries};
 ghost use Rattle.core_rules.specs.Substitution.{shift as shifted};
-ghost use Rattle.core_terms.specs.Pool.{Extends, tree};
+ghost use Rattle.term_pool.specs.Pool.{Extends, tree};
 ghost use Rattle.core_terms.specs.Signature.{Stands, signature_in};
 ghost use Rattle.file_load.specs.Accept.{applied, at_argument as at_argument_lem, level_of, sort_level as sort_level_lem, sort_of_pi as sort_of_pi_lem, type_of};
 ghost use Rattle.file_load.specs.Equal.{same_flag as same_flag_lem};

@@ -1,7 +1,7 @@
 //! The core term of a resolved expression.
 
 ghost use Rattle.std.specs.Prelude.{◌≡◌, ◌<◌, length, map, Some, IfOk};
-ghost use Rattle.core_terms.specs.Pool.{Below, Extends, StandsFor, node_tree, tree};
+ghost use Rattle.term_pool.specs.Pool.{Below, Extends, StandsFor, node_tree, tree};
 ghost use Rattle.file_load.specs.Inferred.{Answers};
 ghost use Rattle.file_load.specs.Translated as spec;
 ghost use Rattle.resolved_tree.specs.declared.resolved.ResolvedExpr.{out-ResolvedExpr};

@@ -3,12 +3,12 @@ ghost use Rattle.std.specs.Prelude.{◌<◌, length};
 use crate::outline::{outline, short};
 use crate::printer::Printer;
 use crate::reading::read;
-use core_terms::{NameId, Names};
 use el_outside::NoMemory;
 use scope_check::{Resolved, Scope, ScopeError, ScopeKind, resolve};
 use source_tree::Decl;
 use std::alloc::Global;
 use std::fmt::Write;
+use term_pool::{NameId, Names};
 
 /// How a text is shown.
 #[derive(Clone, Copy)]

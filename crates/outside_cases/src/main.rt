@@ -15,19 +15,8 @@ mod values;
 use fault::Fault;
 
 fn main(rt: HostRuntime) -> Result<(), Fault> {
-    values::lists(&rt)?;
-    values::levels(&rt)?;
-    texts::walk(&rt)?;
-    texts::longest(&rt)?;
-    texts::places(&rt)?;
-    texts::replacements(&rt)?;
-    memory::sinks(&rt)?;
-    memory::sources(&rt)?;
-    memory::failing_files(&rt)?;
-    memory::sure_files(&rt)?;
-    real::short_file(&rt)?;
-    real::long_file(&rt)?;
-    real::closed_file(&rt)?;
-    real::no_file(&rt)?;
-    real::streams(&rt)
+    values::all(&rt)?;
+    texts::all(&rt)?;
+    memory::all(&rt)?;
+    real::all(&rt)
 }

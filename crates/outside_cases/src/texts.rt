@@ -1,6 +1,6 @@
 //! Cursors, places of offsets, and texts with a part replaced.
 use crate::fault::Fault;
-use el_outside::{CharSet, Cursor, LineTable, Span, is_white, replace};
+use el_outside::{CharSet, Cursor, LineTable, Pos, Span, is_white, replace};
 
 /// What is neither white space nor a bracket.
 struct Words;
@@ -20,9 +20,14 @@ impl CharSet for Words {
 fn step(rt: &impl Print, cursor: &mut Cursor<'_>) -> Result<(), Fault> {
     let at = cursor.at();
     let pos = cursor.pos();
+    let taken = cursor.next_char();
+    step_at(rt, at, pos, taken)
+}
+
+fn step_at(rt: &impl Print, at: u32, pos: Pos, taken: Option<char>) -> Result<(), Fault> {
     let line = pos.line;
     let col = pos.col;
-    match cursor.next_char() {
+    match taken {
         Some(c) => {
             let code = c as u32;
             println!(rt; "cursor: U+{code:X} at byte {at}, {line}:{col}")?;
@@ -33,7 +38,7 @@ fn step(rt: &impl Print, cursor: &mut Cursor<'_>) -> Result<(), Fault> {
 }
 
 /// Columns are characters: a mark that begins the text is none, a tab and a lambda of two bytes are one each.
-pub fn walk(rt: &impl Print) -> Result<(), Fault> {
+fn walk(rt: &impl Print) -> Result<(), Fault> {
     let mut cursor = Cursor::new("\u{FEFF}a\tλ(\r\n\u{FEFF}b");
     for _ in 0..10 {
         step(rt, &mut cursor)?;
@@ -50,15 +55,25 @@ fn take_word(rt: &impl Print, cursor: &mut Cursor<'_>) -> Result<(), Fault> {
     Ok(())
 }
 
-pub fn longest(rt: &impl Print) -> Result<(), Fault> {
+fn longest(rt: &impl Print) -> Result<(), Fault> {
     let mut cursor = Cursor::new("née(x y");
     take_word(rt, &mut cursor)?;
     take_word(rt, &mut cursor)?;
     cursor.skip();
+    copied(rt, &mut cursor)?;
+    white(rt)
+}
+
+/// What is left of a copy, after a word is taken from the cursor itself.
+fn copied(rt: &impl Print, cursor: &mut Cursor<'_>) -> Result<(), Fault> {
     let start = cursor.copy();
-    take_word(rt, &mut cursor)?;
+    take_word(rt, cursor)?;
     let left = start.rest();
     println!(rt; "left of the copy: [{left}]")?;
+    Ok(())
+}
+
+fn white(rt: &impl Print) -> Result<(), Fault> {
     let space = is_white(' ');
     let mark = is_white('\u{FEFF}');
     let letter = is_white('x');
@@ -66,30 +81,51 @@ pub fn longest(rt: &impl Print) -> Result<(), Fault> {
     Ok(())
 }
 
-pub fn places<R: Print + AllocGlobal>(rt: &R) -> Result<(), Fault> {
+fn place(rt: &impl Print, at: u32, pos: Pos) -> Result<(), Fault> {
+    let line = pos.line;
+    let col = pos.col;
+    println!(rt; "line table: byte {at} at {line}:{col}")?;
+    Ok(())
+}
+
+fn places<R: Print + AllocGlobal>(rt: &R) -> Result<(), Fault> {
     let text = "\u{FEFF}a\tλ\r\n\n\u{FEFF}b";
     let table = LineTable::new(rt.alloc(), text)?;
     for at in 0..15_u32 {
         if text.is_char_boundary(at as usize) {
-            let pos = table.pos(at);
-            let line = pos.line;
-            let col = pos.col;
-            println!(rt; "line table: byte {at} at {line}:{col}")?;
+            place(rt, at, table.pos(at))?;
         }
     }
     Ok(())
 }
 
-pub fn replacements<R: Print + AllocGlobal>(rt: &R) -> Result<(), Fault> {
+fn replacement<R: Print + AllocGlobal>(
+    rt: &R,
+    start: u32,
+    end: u32,
+    new: &str,
+) -> Result<(), Fault> {
     let text = "f = λ";
-    for (start, end, new) in [(0, 1, "m"), (4, 6, "s n"), (6, 6, "!"), (0, 6, "")] {
-        if start <= end
-            && text.is_char_boundary(start as usize)
-            && text.is_char_boundary(end as usize)
-        {
-            let replaced = replace(rt.alloc(), text, Span { start, end }, new)?;
-            println!(rt; "replace {start}-{end} by [{new}]: [{replaced}]")?;
-        }
+    if start <= end
+        && text.is_char_boundary(start as usize)
+        && text.is_char_boundary(end as usize)
+    {
+        let replaced = replace(rt.alloc(), text, Span { start, end }, new)?;
+        println!(rt; "replace {start}-{end} by [{new}]: [{replaced}]")?;
     }
     Ok(())
+}
+
+fn replacements<R: Print + AllocGlobal>(rt: &R) -> Result<(), Fault> {
+    replacement(rt, 0, 1, "m")?;
+    replacement(rt, 4, 6, "s n")?;
+    replacement(rt, 6, 6, "!")?;
+    replacement(rt, 0, 6, "")
+}
+
+pub fn all<R: Print + AllocGlobal>(rt: &R) -> Result<(), Fault> {
+    walk(rt)?;
+    longest(rt)?;
+    places(rt)?;
+    replacements(rt)
 }

@@ -1,7 +1,7 @@
-use core_terms::{ConId, DefId, FamId, FieldId, NameId};
 use el_base::Level;
 use source_tree::Place;
 use sqlite_items::{Boxed, Items};
+use term_pool::{ConId, DefId, FamId, FieldId, NameId};
 
 /// A name that is bound, declared or written as a label: the number of its text.
 #[derive(Clone, Copy, Debug, PartialEq, Eq)]

@@ -12,13 +12,13 @@ use crate::error::{ScopeError, ScopeKind};
 use crate::head::Head;
 use crate::holes::Holes;
 use crate::names::{bind, field_of, label, labels, named, qualified, refused, refused_hole, whole};
-use core_terms::FieldId;
 use el_outside::NoMemory;
 use resolved_tree::{ResolvedArg, ResolvedBinder, ResolvedExpr, ResolvedValue};
 use scope_table::{Locals, Scope};
 use source_tree::{Arg, Binder, Expr, FieldValue, Name, Place};
 use sqlite_items::{Boxed, Items};
 use std::alloc::Global;
+use term_pool::FieldId;
 
 /// A hole, where it may stand.
 fn hole(alloc: Global, holes: Holes, place: Place) -> Result<ResolvedExpr, ScopeError>

@@ -10,13 +10,13 @@ use crate::holes::Holes;
 use crate::names::refused;
 use crate::patterns::{all_variables, any_absurd, patterns};
 use crate::postulates::{fresh, signed};
-use core_terms::DefId;
 use el_outside::Text;
 use resolved_tree::{Resolved, ResolvedClause, ResolvedExpr};
 use scope_table::{Locals, Scope, Texts};
 use source_tree::{Clause, Expr, Name, Place, Signature};
 use sqlite_items::Items;
 use std::alloc::Global;
+use term_pool::DefId;
 
 /// A right side, if there is one, under the variables of the left side.
 fn right_side(

@@ -1,6 +1,6 @@
-use core_terms::FieldId;
 use resolved_tree::ResolvedExpr;
 use source_tree::Name;
+use term_pool::FieldId;
 
 /// What stands at the head of an application.
 #[derive(Drop)]

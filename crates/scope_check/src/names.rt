@@ -4,13 +4,13 @@ ghost use Rattle.scope_check.specs.Exprs as spec;
 
 use crate::error::{ScopeError, ScopeKind};
 use crate::head::Head;
-use core_terms::FieldId;
 use el_outside::{NoMemory, Text};
 use resolved_tree::{ResolvedExpr, ResolvedName};
 use scope_table::{GlobalId, Locals, Scope};
 use source_tree::{Name, Place};
 use sqlite_items::Items;
 use std::alloc::Global;
+use term_pool::FieldId;
 
 /// Refuses a name.
 pub fn refused<T>(alloc: Global, kind: ScopeKind, name: &Name) -> Result<T, ScopeError>

@@ -5,12 +5,12 @@ ghost use Rattle.source_tree.specs.declared.decl.Decl.TheVariants as d;
 
 use crate::error::{ScopeError, ScopeKind};
 use crate::names::refused;
-use core_terms::{FamId, FieldId};
 use el_outside::Text;
 use resolved_tree::Resolved;
 use scope_table::{GlobalId, Scope};
 use source_tree::{Name, Place};
 use std::alloc::Global;
+use term_pool::{FamId, FieldId};
 
 /// Brings a field into scope under its own name.
 #[tactic(auto, using(scope_table::proofs::Grown::grows))]

@@ -12,13 +12,13 @@ use crate::exprs::expr;
 use crate::head::Head;
 use crate::holes::Holes;
 use crate::names::{field_named, label, named, qualified, refused, whole};
-use core_terms::{ConId, FieldId};
 use el_outside::NoMemory;
 use resolved_tree::ResolvedPattern;
 use scope_table::{GlobalId, Locals, Scope, Texts};
 use source_tree::{Name, Pattern, Place};
 use sqlite_items::{Boxed, Items};
 use std::alloc::Global;
+use term_pool::{ConId, FieldId};
 
 /// Whether `()` stands in the pattern, at any depth.
 #[cycle(absurd)]

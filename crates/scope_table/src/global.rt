@@ -1,4 +1,4 @@
-use core_terms::{ConId, DefId, FamId, FieldId};
+use term_pool::{ConId, DefId, FamId, FieldId};
 
 /// What a name outside every binder stands for.
 #[derive(Clone, Copy, Debug, PartialEq, Eq)]

@@ -5,12 +5,12 @@ ghost use Rattle.std.specs.Option.{option_copied};
 
 use crate::global::GlobalId;
 use crate::texts::Texts;
-use core_terms::{ConId, DefId, FamId, FieldId, NameId, Names};
 use el_outside::{NoMemory, Text};
 use indexmap::IndexMap;
 use sqlite_items::Items;
 use std::alloc::Global;
 use std::marker::Model;
+use term_pool::{ConId, DefId, FamId, FieldId, NameId, Names};
 
 /// The fields of a record, in order: their names, and the id of the first, after which the others follow.
 #[derive(Debug, Drop)]

@@ -4,7 +4,6 @@
 
 mod plain;
 
-use core_terms::Limits;
 use el_outside::NoMemory;
 use file_load::{Loaded, load};
 use session_text::{error_bytes, report_bytes};
@@ -13,6 +12,7 @@ use std::env::Env;
 use std::io::{ErrorKind, Write};
 use std::rt::Files;
 use std::{env, fs, io};
+use term_pool::Limits;
 
 const LIMITS: Limits = Limits {
     fuel: 100_000,

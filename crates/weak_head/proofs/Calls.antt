@@ -12,8 +12,8 @@ use Rattle.core_rules.proofs.Heads.Mapped.{co_branch-map}
 use Rattle.weak_head.specs.declared.elim.Elim as E
 use Rattle.weak_head.specs.declared.elim.Elim.TheVariants as V
 use Rattle.core_rules.specs.Elimination.{elim_by}
-use Rattle.core_terms.specs.Pool.{Pool, Extends, tree, node_tree}
-use Rattle.core_terms.specs.Growth.{Extends-tree}
+use Rattle.term_pool.specs.Pool.{Pool, Extends, tree, node_tree}
+use Rattle.term_pool.specs.Growth.{Extends-tree}
 use Rattle.weak_head.specs.Answers.{elim_node}
 use Rattle.weak_head.specs.Elims.{elim_in, spine_in, Below}
 use Rattle.weak_head.specs.Pending.{AtTerm, AtTree, AtAnswer, Frame, Run, On, by_node, move}

@@ -6,8 +6,8 @@ use Rattle.std.proofs.lemmas.Bool.{cases_lt}
 use Rattle.core_rules.specs.Term.{Term}
 use Rattle.core_rules.specs.Substitution.{value_at}
 use Rattle.core_rules.specs.Run.{spread}
-use Rattle.core_terms.specs.Pool.{Pool, tree, Extends}
-use Rattle.core_terms.specs.Growth.{Extends-tree, Extends-length}
+use Rattle.term_pool.specs.Pool.{Pool, tree, Extends}
+use Rattle.term_pool.specs.Growth.{Extends-tree, Extends-length}
 use Rattle.el_base.proofs.Lists.{map-reverse, reverse_push}
 use Rattle.el_base.proofs.Throughout.{map-same, all-reverse, all-weaker}
 use Rattle.weak_head.specs.Elims.{env_in}

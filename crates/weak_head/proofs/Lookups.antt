@@ -16,7 +16,7 @@ use Rattle.std.specs.List.{AllByRecursion}
 use Rattle.core_rules.proofs.Heads.OneAnswer.{one_some}
 use Rattle.core_rules.proofs.Heads.Mapped.{tree_of-map, con_place-map, field_place-map, con_decl-map, fields_of-map}
 use Rattle.core_rules.proofs.Signature.Places.{length-numbers}
-use Rattle.core_terms.specs.Pool.{Pool, tree}
+use Rattle.term_pool.specs.Pool.{Pool, tree}
 use Rattle.core_terms.specs.Signature.{signature_in, con_total, field_total, Stands}
 
 length_places : (b : ℕ) (ns : List ℕ) → length (places b ns) ≡ sum ns

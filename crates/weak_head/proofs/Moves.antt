@@ -14,9 +14,9 @@ use Rattle.core_rules.specs.Bounded.{same_flag}
 use Rattle.core_rules.specs.BoundedLaws.{Ends, Becomes, at_constructor, at_function, at_metavariable}
 use Rattle.core_rules.specs.Mapped.{con_branches_map}
 use Rattle.core_rules.proofs.Heads.Mapped.{goes_map, con_branch-map}
-use Rattle.core_terms.specs.Pool.{node_tree}
-use Rattle.core_terms.specs.declared.node.Node.{Node}
-use Rattle.core_terms.specs.declared.node.Node.TheVariants as N
+use Rattle.term_pool.specs.Pool.{node_tree}
+use Rattle.term_pool.specs.declared.node.Node.{Node}
+use Rattle.term_pool.specs.declared.node.Node.TheVariants as N
 use Rattle.weak_head.specs.declared.elim.Elim as E
 use Rattle.weak_head.specs.declared.state.Applied as A
 use Rattle.weak_head.specs.Elims.{elim_in, spine_in, AreArgs, arg_of, args_of, IsFieldAt, IsFirstField}

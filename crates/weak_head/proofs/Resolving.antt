@@ -5,8 +5,8 @@ use Rattle.core_rules.specs.Term.{Term, Terms, Meta, from_list, to_list, env_of}
 use Rattle.core_rules.specs.Substitution.{under, put_solution}
 use Rattle.core_rules.specs.InScope.{IsAcyclic}
 use Rattle.core_rules.specs.Heads.{Solutions}
-use Rattle.core_terms.specs.Pool.{Pool, tree, args, Extends}
-use Rattle.core_terms.specs.Growth.{Extends-tree}
+use Rattle.term_pool.specs.Pool.{Pool, tree, args, Extends}
+use Rattle.term_pool.specs.Growth.{Extends-tree}
 use Rattle.core_terms.specs.Solutions.{AreIn, solved_in}
 use Rattle.el_base.proofs.Lists.{map-reverse}
 use Rattle.weak_head.specs.Pending.{Comes, here, by}

@@ -6,8 +6,8 @@ use Rattle.core_rules.specs.Signature.{Tree, Leaf, Split, ConBranches, NoCon, De
 use Rattle.core_rules.specs.Mapped.{tree_map, con_branches_map, AllTree, AllConBranches}
 use Rattle.core_rules.specs.Elimination.{Arg}
 use Rattle.core_terms.specs.TreeView.{con_of}
-use Rattle.core_terms.specs.Pool.{Pool, tree, Extends}
-use Rattle.core_terms.specs.Growth.{Extends-tree, Extends-length}
+use Rattle.term_pool.specs.Pool.{Pool, tree, Extends}
+use Rattle.term_pool.specs.Growth.{Extends-tree, Extends-length}
 use Rattle.core_terms.proofs.Mapped.{signature_map-same, AllDecls-weaker}
 use Rattle.el_base.proofs.Lists.{reverse_push}
 use Rattle.el_base.proofs.Throughout.{map-same, all-reverse, all-weaker}

@@ -10,7 +10,7 @@ use Rattle.core_rules.specs.Heads.{Solutions, Answer, Form, Heads, taken, Choice
 use Rattle.core_rules.specs.Bounded.{same_flag}
 use Rattle.core_rules.specs.BoundedLaws.{Becomes, Ends, next, next_node, at_field, at_constructor, at_function, at_metavariable, IsFull}
 use Rattle.core_rules.proofs.Heads.Resolve.{NotSolved}
-use Rattle.core_terms.specs.Pool.{Pool, Extends}
+use Rattle.term_pool.specs.Pool.{Pool, Extends}
 use Rattle.core_terms.specs.Signature.{Stands, signature_in}
 use Rattle.core_terms.specs.Solutions.{AreIn, solved_in, solved_in-stays}
 use Rattle.core_terms.proofs.SignatureGrowth.{signature_in-extends}

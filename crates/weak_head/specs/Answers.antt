@@ -4,9 +4,9 @@ use Rattle.core_rules.specs.Term.{Term}
 use Rattle.core_rules.specs.Signature.{Signature}
 use Rattle.core_rules.specs.Heads.{Solutions, Answer, Form, Blocked, Within, Out, HeadOf}
 use Rattle.core_rules.specs.BoundedLaws.{shown}
-use Rattle.core_terms.specs.Pool.{Pool, StandsFor, tree}
-use Rattle.core_terms.specs.declared.node.Node.{Node}
-use Rattle.core_terms.specs.declared.node.Node.TheVariants as N
+use Rattle.term_pool.specs.Pool.{Pool, StandsFor, tree}
+use Rattle.term_pool.specs.declared.node.Node.{Node}
+use Rattle.term_pool.specs.declared.node.Node.TheVariants as N
 use Rattle.weak_head.specs.declared.answer.Head as H
 use Rattle.weak_head.specs.declared.answer.Head.TheVariants as HV
 use Rattle.weak_head.specs.declared.answer.Reduced as R

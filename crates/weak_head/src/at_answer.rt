@@ -1,6 +1,6 @@
 ghost use Rattle.std.specs.Prelude.{◌≡◌, ◌∷◌, List, length, IfOk};
 ghost use Rattle.core_rules.specs.Heads.{Solutions};
-ghost use Rattle.core_terms.specs.Pool.{Extends, tree};
+ghost use Rattle.term_pool.specs.Pool.{Extends, tree};
 ghost use Rattle.core_terms.specs.Signature.{signature_in};
 ghost use Rattle.weak_head.specs.Pending.{AtAnswer, Frame as Waiting, IsBare, On, move};
 ghost use Rattle.weak_head.specs.States.{AppliedBelow, FrameBelow, StateBelow, answer_in, frame_in, state_in};

@@ -3,7 +3,7 @@ ghost use Rattle.core_rules.specs.Term.{Con as ConTerm, Lam, Term, Terms};
 ghost use Rattle.core_rules.specs.Signature.{Signature as Rules};
 ghost use Rattle.core_rules.specs.Heads.{Solutions};
 ghost use Rattle.core_rules.specs.Bounded.{same_flag};
-ghost use Rattle.core_terms.specs.Pool.{Pool, tree};
+ghost use Rattle.term_pool.specs.Pool.{Pool, tree};
 ghost use Rattle.core_terms.specs.Signature.{Stands, signature_in};
 ghost use Rattle.weak_head.specs.Elims.{AllBelow, spine_in};
 ghost use Rattle.weak_head.specs.Pending.{AtTerm, Frame, On, Rests, move};

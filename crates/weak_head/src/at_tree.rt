@@ -4,7 +4,7 @@ ghost use Rattle.core_rules.specs.Signature.{Cosplit, Intro, Signature as Rules}
 ghost use Rattle.core_rules.specs.Elimination.{projections};
 ghost use Rattle.core_rules.specs.Heads.{Solutions};
 ghost use Rattle.core_rules.specs.Mapped.{AllCoBranches, AllTree};
-ghost use Rattle.core_terms.specs.Pool.{Extends, tree};
+ghost use Rattle.term_pool.specs.Pool.{Extends, tree};
 ghost use Rattle.core_terms.specs.Signature.{signature_in};
 ghost use Rattle.core_terms.specs.TreeView.{co_of};
 ghost use Rattle.weak_head.specs.Pending.{Frame as Waiting, move};

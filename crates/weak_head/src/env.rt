@@ -2,7 +2,7 @@ ghost use Rattle.std.specs.Prelude.{◌≡◌, ℕ, ◌<◌, length, map, IfOk};
 ghost use Rattle.core_rules.specs.Term.{Term};
 ghost use Rattle.core_rules.specs.Substitution.{value_at};
 ghost use Rattle.core_rules.specs.Run.{spread};
-ghost use Rattle.core_terms.specs.Pool.{Extends, StandsFor, tree};
+ghost use Rattle.term_pool.specs.Pool.{Extends, StandsFor, tree};
 ghost use Rattle.weak_head.specs.Elims.{env_in};
 ghost use Rattle.weak_head.specs.States.{Ids};
 

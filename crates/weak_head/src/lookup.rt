@@ -3,7 +3,7 @@ ghost use Rattle.core_rules.specs.Term.{Term};
 ghost use Rattle.core_rules.specs.Signature.{tree_of, fields_of};
 ghost use Rattle.core_rules.specs.Run.{takes};
 ghost use Rattle.core_rules.specs.Heads.{argument_of, is_first};
-ghost use Rattle.core_terms.specs.Pool.{Pool};
+ghost use Rattle.term_pool.specs.Pool.{Pool};
 ghost use Rattle.core_terms.specs.Signature.{signature_in};
 
 use core_terms::{ConDecl, ConId, CoreDecl, DefId, DefState, FamId, FieldId, Signature, Tree};

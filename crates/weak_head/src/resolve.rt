@@ -2,7 +2,7 @@ ghost use Rattle.std.specs.Prelude.{◌≡◌, ◌<◌, length, map, IfOk};
 ghost use Rattle.std.specs.List.{AllByRecursion};
 ghost use Rattle.core_rules.specs.Term.{env_of};
 ghost use Rattle.core_rules.specs.InScope.{IsAcyclic};
-ghost use Rattle.core_terms.specs.Pool.{Extends, IsArgs, args, tree};
+ghost use Rattle.term_pool.specs.Pool.{Extends, IsArgs, args, tree};
 ghost use Rattle.core_terms.specs.Solutions.{AreIn, solved_in};
 ghost use Rattle.weak_head.specs.Pending.{IsResolved};
 

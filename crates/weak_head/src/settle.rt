@@ -1,6 +1,6 @@
 ghost use Rattle.std.specs.Prelude.{◌≡◌, List, length, IfOk};
 ghost use Rattle.core_rules.specs.InScope.{IsAcyclic};
-ghost use Rattle.core_terms.specs.Pool.{Extends, tree};
+ghost use Rattle.term_pool.specs.Pool.{Extends, tree};
 ghost use Rattle.core_terms.specs.Signature.{Stands, signature_in};
 ghost use Rattle.core_terms.specs.Solutions.{AreIn, solved_in};
 ghost use Rattle.weak_head.specs.Meanings.{Settles};

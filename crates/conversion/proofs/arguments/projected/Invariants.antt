@@ -1,6 +1,6 @@
 use Rattle.std.proofs.Common.{◌≡◌, ◌+◌, ◌++◌, length, map}
 use Rattle.core_rules.specs.Term.{Proj}
-use Rattle.core_terms.specs.Pool.{Extends, tree}
+use Rattle.term_pool.specs.Pool.{Extends, tree}
 use Rattle.weak_head.specs.Elims.{AllBelow, AreArgs, args_of, spine_in}
 use Rattle.conversion.specs.Arguments.{flag_of}
 use Rattle.conversion.proofs.arguments.projected.Given as goal

@@ -1,7 +1,7 @@
 use Rattle.std.proofs.Common.{reverse}
 use Rattle.core_rules.specs.Bounded as B
 use Rattle.core_rules.specs.Bounded.{ConvOf}
-use Rattle.core_terms.specs.Pool.{Extends, tree}
+use Rattle.term_pool.specs.Pool.{Extends, tree}
 use Rattle.core_terms.specs.Signature.{signature_in}
 use Rattle.core_terms.specs.Solutions.{solved_in}
 use Rattle.conversion.specs.Pending.{items, weigh, InTurn, Going}

@@ -1,5 +1,5 @@
 use Rattle.std.proofs.Common.{◌<◌, length}
-use Rattle.core_terms.specs.Pool.{Extends}
+use Rattle.term_pool.specs.Pool.{Extends}
 use Rattle.core_cases.proofs.solved.doubled_term.Given as goal
 
 abbrev pub invariant-loop : goal.invariant-loop

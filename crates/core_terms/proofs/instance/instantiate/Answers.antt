@@ -1,7 +1,7 @@
 use Rattle.std.proofs.Common.{sym, ◌∙◌, ◌<◌, length, arith, subst}
 use Rattle.core_rules.specs.InScope.{IsAcyclic}
 use Rattle.core_terms.specs.Solutions.{AreInstances, AreIn-stays, IsInstance, solved_in, solved_in-stays}
-use Rattle.core_terms.specs.Growth.{Extends-length, Extends-tree, Extends-trans}
+use Rattle.term_pool.specs.Growth.{Extends-length, Extends-tree, Extends-trans}
 use Rattle.core_terms.proofs.Instances.{instance_none}
 use Rattle.core_terms.proofs.instance.instantiate.Goals as goal
 

@@ -1,6 +1,6 @@
 use Rattle.std.proofs.Common.{◌<◌, length}
 use Rattle.std.specs.List.{AllByRecursion}
-use Rattle.core_terms.specs.Pool.{Extends}
+use Rattle.term_pool.specs.Pool.{Extends}
 use Rattle.core_terms.specs.Solutions.{AreInstances, solved_in}
 use Rattle.core_terms.proofs.instance.instantiate.Given as goal
 

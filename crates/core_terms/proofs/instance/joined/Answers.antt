@@ -2,7 +2,7 @@ use Rattle.std.proofs.Common.{refl, sym, ◌∙◌, ap}
 use Rattle.std.proofs.lemmas.Result.{IfOk-weaker}
 use Rattle.core_rules.specs.Term.{env_of}
 use Rattle.core_rules.specs.Substitution.{under}
-use Rattle.core_terms.specs.Pool.{StandsFor, tree, args, node_tree}
+use Rattle.term_pool.specs.Pool.{StandsFor, tree, args, node_tree}
 use Rattle.core_terms.specs.Solutions.{solved_in, IsInstance}
 use Rattle.core_terms.proofs.Instances.{args_instance, below_instance, joined_tree, solved_tree}
 use Rattle.core_terms.proofs.instance.joined.Goals as goal

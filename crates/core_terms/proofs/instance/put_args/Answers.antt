@@ -3,7 +3,7 @@ use Rattle.std.proofs.lemmas.Grind.{common_steps}
 use Rattle.el_base.proofs.Lists.{map-reverse}
 use Rattle.core_rules.specs.Term.{env_of}
 use Rattle.core_rules.specs.Substitution.{under}
-use Rattle.core_terms.specs.Pool.{StandsFor, tree, args}
+use Rattle.term_pool.specs.Pool.{StandsFor, tree, args}
 use Rattle.core_terms.proofs.Instances.{to_from}
 use Rattle.core_terms.proofs.instance.put_args.Goals as goal
 

@@ -6,9 +6,9 @@ use Rattle.core_rules.specs.InScope.{IsAcyclic}
 use Rattle.core_rules.specs.BoundedLaws.{IsFull}
 use Rattle.core_rules.proofs.Heads.FullSolutions.{full_is_full}
 use Rattle.core_rules.proofs.Heads.Same.{same_replaced}
-use Rattle.core_terms.specs.Pool.{tree}
+use Rattle.term_pool.specs.Pool.{tree}
 use Rattle.core_terms.specs.Solutions.{solved_in, solved_in-stays}
-use Rattle.core_terms.specs.Growth.{Extends-tree}
+use Rattle.term_pool.specs.Growth.{Extends-tree}
 use Rattle.core_terms.proofs.instance.same_term.Goals as goal
 
 pub returns-clause-is : goal.returns-clause-is

@@ -2,14 +2,14 @@ use Rattle.std.proofs.Common.{sym, ◌∙◌, ◌<◌, ℕ, length, arith, subst
 use Rattle.std.specs.List.{AllByRecursion}
 use Rattle.std.proofs.lemmas.Result.{on_ok_weaker}
 use Rattle.el_base.proofs.Throughout.{all-append}
-use Rattle.core_terms.specs.Pool.{Pool, Below, tree}
-use Rattle.core_terms.specs.declared.node.Node.{Node}
-use Rattle.core_terms.specs.Growth.{Extends-refl}
-use Rattle.core_terms.specs.Shifted.{within-stays}
+use Rattle.term_pool.specs.Pool.{Pool, Below, tree}
+use Rattle.term_pool.specs.declared.node.Node.{Node}
+use Rattle.term_pool.specs.Growth.{Extends-refl}
+use Rattle.term_pool.specs.Shifted.{within-stays}
 use Rattle.core_terms.specs.Solutions.{solved_in, IsInstance}
 use Rattle.core_terms.proofs.Instances.{instance_none, instance_put, wanted_within}
-use Rattle.core_terms.proofs.Plain.{Below-higher}
-use Rattle.core_terms.proofs.Shifts.{always}
+use Rattle.term_pool.proofs.Plain.{Below-higher}
+use Rattle.term_pool.proofs.Shifts.{always}
 use Rattle.core_terms.proofs.instance.turn.Goals as goal
 
 below : (p : Pool) (t : ℕ) (n : Node) → t < length p.trees → Below (tree p) t n → Below (tree p) (length p.trees) n

@@ -4,7 +4,7 @@ use Rattle.std.specs.Prelude.{Option, IfOk}
 use Rattle.std.specs.List.{AllByRecursion}
 use Rattle.el_base.proofs.Throughout.{all-front, all-last}
 use Rattle.core_rules.specs.Term.{Term}
-use Rattle.core_terms.specs.Growth.{Extends-length, Extends-trans}
+use Rattle.term_pool.specs.Growth.{Extends-length, Extends-trans}
 use Rattle.core_terms.specs.Signature.{signature_in}
 use Rattle.file_load.specs.Inferred.{Answers, IsReady, context_in}
 use Rattle.file_load.specs.declared.infer.Argument.{Argument}

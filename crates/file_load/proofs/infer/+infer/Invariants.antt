@@ -1,6 +1,6 @@
 use Rattle.std.proofs.Common.{◌≡◌, ◌≤◌, ◌+◌, ◌*◌, max, length, take}
 use Rattle.std.specs.List.{AllByRecursion}
-use Rattle.core_terms.specs.Pool.{Extends}
+use Rattle.term_pool.specs.Pool.{Extends}
 use Rattle.file_load.specs.Inferred.{IsReady}
 use Rattle.file_load.proofs.Inferring.{IsReading, IsWalk}
 use Rattle.file_load.proofs.infer.+infer.Given as goal

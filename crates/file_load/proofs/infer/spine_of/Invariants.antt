@@ -1,6 +1,6 @@
 use Rattle.std.proofs.Common.{◌≡◌, ◌≤◌, ◌∷◌, [], max}
 use Rattle.std.specs.List.{AllByRecursion}
-use Rattle.core_terms.specs.Pool.{tree}
+use Rattle.term_pool.specs.Pool.{tree}
 use Rattle.file_load.specs.Inferred.{unwound}
 use Rattle.file_load.proofs.infer.spine_of.Given as goal
 

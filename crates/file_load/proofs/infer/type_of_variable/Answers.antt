@@ -2,7 +2,7 @@ use Rattle.std.proofs.Common.{arith, ◌<◌, ◌-◌, ℕ, length, ap, subst, r
 use Rattle.std.proofs.lemmas.Option.{slice_get_read}
 use Rattle.core_rules.specs.Signature.{Entry}
 use Rattle.core_rules.specs.Substitution.{shift}
-use Rattle.core_terms.specs.Pool.{StandsFor, tree}
+use Rattle.term_pool.specs.Pool.{StandsFor, tree}
 use Rattle.file_load.proofs.Inferring.{variable-at, variable-past}
 use Rattle.file_load.proofs.infer.type_of_variable.Goals as goal
 

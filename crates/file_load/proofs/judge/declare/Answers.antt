@@ -3,7 +3,7 @@ use Rattle.std.proofs.lemmas.Grind.{common_steps}
 use Rattle.std.specs.Prelude.{is_some}
 use Rattle.core_rules.specs.Term.{Term}
 use Rattle.core_rules.specs.Signature.{Signature}
-use Rattle.core_terms.specs.Pool.{tree}
+use Rattle.term_pool.specs.Pool.{tree}
 use Rattle.core_terms.specs.Signature.{signature_in}
 use Rattle.file_load.specs.Accept.{level_of}
 use Rattle.file_load.specs.Inferred.{StandsForSome}

@@ -1,8 +1,8 @@
 use Rattle.std.proofs.Common.{arith, ◌≡◌, ◌∙◌, ◌+◌, ◌-◌, map, drop, take, None, Some, ℕ, sym, ap, subst}
 use Rattle.std.specs.Prelude.{Option, IfOk}
 use Rattle.core_rules.specs.Term.{Term}
-use Rattle.core_terms.specs.Pool.{tree}
-use Rattle.core_terms.specs.Growth.{Extends-trans, Extends-tree}
+use Rattle.term_pool.specs.Pool.{tree}
+use Rattle.term_pool.specs.Growth.{Extends-trans, Extends-tree}
 use Rattle.file_load.specs.Inferred.{Answers, StandsForSome}
 use Rattle.resolved_tree.specs.declared.resolved.ResolvedExpr.{out-ResolvedExpr}
 use Rattle.file_load.specs.Translated as spec

@@ -1,5 +1,5 @@
 use Rattle.std.proofs.Common.{◌≤◌, length, drop}
-use Rattle.core_terms.specs.Pool.{Extends, StandsFor, tree}
+use Rattle.term_pool.specs.Pool.{Extends, StandsFor, tree}
 use Rattle.file_load.specs.Translated as spec
 use Rattle.file_load.proofs.translate.grouped.Given as goal
 

@@ -6,9 +6,9 @@ use Rattle.weak_head.specs.Pending.{AtTree, On}
 use Rattle.weak_head.proofs.Calls.{con_stands}
 use Rattle.weak_head.proofs.Stays.{applied_more, spine_stays, tree_stays, tree_more}
 use Rattle.core_terms.specs.TreeView.{con_of}
-use Rattle.core_terms.specs.Pool.{tree, args}
+use Rattle.term_pool.specs.Pool.{tree, args}
 use Rattle.core_terms.specs.Signature.{signature_in}
-use Rattle.core_terms.specs.Growth.{Extends-refl, Extends-tree}
+use Rattle.term_pool.specs.Growth.{Extends-refl, Extends-tree}
 use Rattle.weak_head.specs.Elims.{spine_in, env_in}
 use Rattle.weak_head.specs.States.{Ids, frame_in}
 use Rattle.weak_head.proofs.Moves.{none_from, all_args, some_field, no_con_node, length_spine, answer_as, branch_map_at, back_other, back_field, back_short, back_by}

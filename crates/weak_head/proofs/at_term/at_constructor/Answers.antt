@@ -1,5 +1,5 @@
 use Rattle.std.proofs.Common.{[], Some, None, take, sym, ap, ◌∙◌, refl}
-use Rattle.core_terms.specs.Pool.{tree}
+use Rattle.term_pool.specs.Pool.{tree}
 use Rattle.core_terms.specs.Signature.{signature_in}
 use Rattle.weak_head.specs.Elims.{args_of, spine_in}
 use Rattle.weak_head.specs.Pending.{AtStep, On}

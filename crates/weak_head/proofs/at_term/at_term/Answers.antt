@@ -1,7 +1,7 @@
 use Rattle.std.proofs.Common.{◌≡◌, [], length, Some, None, sym, ap, ◌∙◌, refl, subst, arith}
 use Rattle.core_rules.specs.Term.{Def}
 use Rattle.core_rules.specs.Mapped.{tree_map}
-use Rattle.core_terms.specs.Pool.{tree, args}
+use Rattle.term_pool.specs.Pool.{tree, args}
 use Rattle.core_terms.specs.Signature.{signature_in}
 use Rattle.weak_head.specs.Elims.{spine_in, env_in}
 use Rattle.weak_head.specs.Pending.{AtTree, On}

@@ -4,9 +4,9 @@ use Rattle.core_rules.specs.Signature.{Leaf, Intro, Cosplit, Split, RecordSplit}
 use Rattle.core_rules.specs.Mapped.{tree_map, AllTree, AllCoBranches, AllConBranches}
 use Rattle.core_rules.specs.Run.{spread}
 use Rattle.core_terms.specs.TreeView.{step_of, co_of, con_of}
-use Rattle.core_terms.specs.Pool.{tree}
+use Rattle.term_pool.specs.Pool.{tree}
 use Rattle.core_terms.specs.Signature.{signature_in}
-use Rattle.core_terms.specs.Growth.{Extends-trans, Extends-tree}
+use Rattle.term_pool.specs.Growth.{Extends-trans, Extends-tree}
 use Rattle.weak_head.specs.Elims.{env_in}
 use Rattle.weak_head.specs.Pending.{AtTerm, AtTree, AtStep, On, move}
 use Rattle.weak_head.specs.States.{Ids, call_in}

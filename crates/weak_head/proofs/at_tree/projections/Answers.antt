@@ -1,8 +1,8 @@
 use Rattle.std.proofs.Common.{ℕ, ◌<◌, length, map, sym, ap, ◌∙◌, subst, arith}
 use Rattle.std.proofs.lemmas.List.{take_all}
 use Rattle.core_rules.specs.Term.{Term, Proj}
-use Rattle.core_terms.specs.Pool.{tree}
-use Rattle.core_terms.specs.Growth.{Extends-trans, Extends-tree}
+use Rattle.term_pool.specs.Pool.{tree}
+use Rattle.term_pool.specs.Growth.{Extends-trans, Extends-tree}
 use Rattle.el_base.proofs.Throughout.{all-push}
 use Rattle.weak_head.specs.States.{Ids}
 use Rattle.weak_head.proofs.Environments.{ids_more, ids_stay, list_next}

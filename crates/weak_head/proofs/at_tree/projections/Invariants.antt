@@ -1,6 +1,6 @@
 use Rattle.std.proofs.Common.{◌≡◌, length, map, take}
 use Rattle.core_rules.specs.Term.{Proj}
-use Rattle.core_terms.specs.Pool.{Extends, tree}
+use Rattle.term_pool.specs.Pool.{Extends, tree}
 use Rattle.weak_head.specs.States.{Ids}
 use Rattle.weak_head.proofs.at_tree.projections.Given as goal
 

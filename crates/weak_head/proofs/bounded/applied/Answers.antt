@@ -1,7 +1,7 @@
 use Rattle.std.proofs.Common.{◌+◌, length, drop, sym, ap, ◌∙◌, arith}
 use Rattle.core_rules.specs.Elimination.{elims}
-use Rattle.core_terms.specs.Pool.{tree, node_tree}
-use Rattle.core_terms.specs.Growth.{Extends-trans}
+use Rattle.term_pool.specs.Pool.{tree, node_tree}
+use Rattle.term_pool.specs.Growth.{Extends-trans}
 use Rattle.weak_head.specs.Elims.{spine_in}
 use Rattle.weak_head.proofs.Spines.{none_of, in_reach, below_at}
 use Rattle.weak_head.proofs.Calls.{left_none, left_some, over_tree}

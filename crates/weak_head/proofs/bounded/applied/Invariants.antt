@@ -1,6 +1,6 @@
 use Rattle.std.proofs.Common.{◌≡◌, ◌<◌, ◌≤◌, ◌-◌, length, drop}
 use Rattle.core_rules.specs.Elimination.{elims}
-use Rattle.core_terms.specs.Pool.{Extends, tree}
+use Rattle.term_pool.specs.Pool.{Extends, tree}
 use Rattle.weak_head.specs.Elims.{spine_in}
 use Rattle.weak_head.proofs.bounded.applied.Given as goal
 

@@ -1,9 +1,9 @@
 use Rattle.std.proofs.Common.{ℕ, [], length, Option, sym, ap, subst, subst₂, arith}
 use Rattle.core_rules.specs.Heads.{Heads}
-use Rattle.core_terms.specs.Pool.{tree}
+use Rattle.term_pool.specs.Pool.{tree}
 use Rattle.core_terms.specs.Signature.{signature_in}
 use Rattle.core_terms.specs.Solutions.{solved_in}
-use Rattle.core_terms.specs.Growth.{Extends-refl, Extends-trans}
+use Rattle.term_pool.specs.Growth.{Extends-refl, Extends-trans}
 use Rattle.core_terms.proofs.SignatureGrowth.{Stands-extends}
 use Rattle.weak_head.specs.Elims.{AllBelow, spine_in}
 use Rattle.weak_head.specs.Meanings.{Leads, Means, Whole}

@@ -1,7 +1,7 @@
 use Rattle.std.proofs.Common.{◌≡◌, ◌<◌, ◌+◌, ◌-◌, map, drop, length, sym, ap, ◌∙◌, subst, arith}
 use Rattle.core_rules.specs.Substitution.{value_at}
-use Rattle.core_terms.specs.Pool.{tree}
-use Rattle.core_terms.specs.Growth.{Extends-trans}
+use Rattle.term_pool.specs.Pool.{tree}
+use Rattle.term_pool.specs.Growth.{Extends-trans}
 use Rattle.el_base.proofs.Throughout.{all-push}
 use Rattle.weak_head.specs.Elims.{env_in}
 use Rattle.weak_head.specs.States.{Ids}

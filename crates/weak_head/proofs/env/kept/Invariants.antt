@@ -1,6 +1,6 @@
 use Rattle.std.proofs.Common.{◌≡◌, ◌≤◌, length, map, drop}
 use Rattle.core_rules.specs.Substitution.{value_at}
-use Rattle.core_terms.specs.Pool.{Extends, tree}
+use Rattle.term_pool.specs.Pool.{Extends, tree}
 use Rattle.weak_head.specs.Elims.{env_in}
 use Rattle.weak_head.specs.States.{Ids}
 use Rattle.weak_head.proofs.env.kept.Given as goal

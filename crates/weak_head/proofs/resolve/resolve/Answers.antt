@@ -2,8 +2,8 @@ use Rattle.std.proofs.Common.{◌≡◌, ℕ, ◌<◌, length, map, Option, Some
 use Rattle.std.specs.List.{AllByRecursion}
 use Rattle.core_rules.specs.Term.{Meta}
 use Rattle.core_rules.specs.Substitution.{under}
-use Rattle.core_terms.specs.Pool.{tree, args}
-use Rattle.core_terms.specs.Growth.{Extends-refl, Extends-trans, Extends-length}
+use Rattle.term_pool.specs.Pool.{tree, args}
+use Rattle.term_pool.specs.Growth.{Extends-refl, Extends-trans, Extends-length}
 use Rattle.weak_head.specs.Pending.{here}
 use Rattle.weak_head.proofs.Resolving.{comes_next, falls_next}
 use Rattle.weak_head.proofs.resolve.resolve.Goals as goal

@@ -1,8 +1,8 @@
 use Rattle.std.proofs.Common.{◌<◌, ℕ, Option, sym, subst}
-use Rattle.core_terms.specs.Pool.{tree}
+use Rattle.term_pool.specs.Pool.{tree}
 use Rattle.core_terms.specs.Signature.{signature_in}
 use Rattle.core_terms.specs.Solutions.{solved_in}
-use Rattle.core_terms.specs.Growth.{Extends-trans}
+use Rattle.term_pool.specs.Growth.{Extends-trans}
 use Rattle.core_terms.proofs.SignatureGrowth.{Stands-extends}
 use Rattle.weak_head.specs.Meanings.{Settles}
 use Rattle.weak_head.specs.Pending.{RunBare}

@@ -1,6 +1,6 @@
 use Rattle.std.proofs.Common.{◌≡◌, [], ◌∷◌, length, sym, ap, ap₂, subst, refl, ◌∙◌, arith}
 use Rattle.std.proofs.lemmas.List.{nil_from_length}
-use Rattle.core_terms.specs.Pool.{tree}
+use Rattle.term_pool.specs.Pool.{tree}
 use Rattle.core_terms.specs.Signature.{signature_in}
 use Rattle.core_terms.specs.Solutions.{solved_in}
 use Rattle.core_terms.proofs.SignatureGrowth.{Stands-extends, signature_in-extends}

@@ -1,8 +1,0 @@
-use Rattle.core_terms.proofs.ArgLists.{IsTaken}
-use Rattle.core_terms.proofs.pool.TermPool.args.Given as goal
-
-abbrev pub invariant-loop-cell : goal.invariant-loop-cell
-invariant-loop-cell l = IsTaken l.fn.self l.fn.a l.ids.items l.left
-
-abbrev pub decreases-loop-cell : goal.decreases-loop-cell
-decreases-loop-cell l = l.left

@@ -1,5 +1,0 @@
-use Rattle.core_terms.proofs.Shifts.{shifted-none}
-use Rattle.core_terms.proofs.shifting.shift.Goals as goal
-
-pub returns-then-by-eq0-clause-is : goal.returns-then-by-eq0-clause-is
-returns-then-by-eq0-clause-is c = shifted-none c.args.pool.now c.args.t c.args.from c.args.by c.if-by-eq0.true c.requires

@@ -1,0 +1,12 @@
+pub mod Outcome
+pub mod OneTerm
+pub mod TermOutcome
+pub mod Sound
+pub mod Families
+pub mod Shown
+pub mod SameBranch
+pub mod Trees
+pub mod Decls
+pub mod OneDecl
+pub mod DeclOutcome
+pub mod ByHand

@@ -1,0 +1,10 @@
+pub mod Outcome
+pub mod Refusals
+pub mod TermReading
+pub mod Laws
+pub mod FamilyReading
+pub mod Unifier
+pub mod TreeReading
+pub mod DeclReading
+pub mod DeclLaws
+pub mod Examples

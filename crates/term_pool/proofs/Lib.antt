@@ -1,0 +1,9 @@
+pub mod Measured
+pub mod Trees
+pub mod Seen
+pub mod Turns
+pub mod Shifts
+pub mod Plain
+pub mod Once
+pub mod Kept
+pub mod ArgLists

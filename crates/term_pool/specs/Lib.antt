@@ -1,0 +1,11 @@
+pub mod Lists
+pub mod Reach
+pub mod Measures
+pub mod Node
+pub mod Pool
+pub mod Growth
+pub mod Table
+pub mod Change
+pub mod Placed
+pub mod Shifted
+pub mod Count

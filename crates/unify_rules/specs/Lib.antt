@@ -1,0 +1,4 @@
+pub mod Unifier
+pub mod Joined
+pub mod UnifierLaws
+pub mod Rows
