@@ -38,11 +38,11 @@ flags_in f (V.Field k ∷ xs) = ap (λ l. Explicit ∷ l) (flags_in f xs)
 spine_flags : (f : ℕ → Term) (xs : List E.Elim) → map flag (spine_in f xs) ≡ reverse (map flag_of xs)
 spine_flags f xs = flags_in f (reverse xs) ∙ map-reverse flag_of xs
 
-head_of : Flag → List Flag → Flag
+abbrev head_of : Flag → List Flag → Flag
 head_of b [] = b
 head_of b (c ∷ bs) = c
 
-tail_of : List Flag → List Flag
+abbrev tail_of : List Flag → List Flag
 tail_of [] = []
 tail_of (b ∷ bs) = bs
 

@@ -10,7 +10,7 @@ use Rattle.term_pool.specs.declared.node.Node.{Node}
 use Rattle.term_pool.specs.declared.node.Node.TheVariants as N
 use Rattle.conversion.specs.declared.arguments.Part.{Part}
 use Rattle.conversion.specs.Part.{all_in}
-use Rattle.conversion.specs.Heads.{is_same_head, bare_parts}
+use Rattle.conversion.specs.Heads.{is_same_head, rigid, bare, bare_parts}
 
 -- parts that two heads have where nothing is applied
 abbrev pub if_bare : Decision → Option (List B.Part) → List Elim → List Elim → Decision
@@ -20,7 +20,7 @@ if_bare q (Some ps) _ _ = q
 
 module _ (f : ℕ → Term) (q : Decision) where
   abbrev by_nodes : Node → Node → List Elim → List Elim → Decision
-  by_nodes a b es ds = cond (is_same_head a b) (parts_or q (argument_parts es ds)) (if_bare q (option_map (all_in f) (bare_parts a b)) es ds)
+  by_nodes a b es ds = cond (is_same_head (rigid a) (rigid b)) (parts_or q (argument_parts es ds)) (if_bare q (option_map (all_in f) (bare_parts (bare a) (bare b))) es ds)
 
   pub heads_by_nodes : (a b : Node) (es ds : List Elim) → same_heads q (node_tree f a) es (node_tree f b) ds ≡ by_nodes a b es ds
   heads_by_nodes (N.Var i) (N.Var j) es ds = refl

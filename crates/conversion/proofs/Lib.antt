@@ -1,7 +1,10 @@
+mod Slices
 mod Verdicts
 mod Weights
 mod HeadParts
 mod Zip
+mod Stays
+mod Projected
 mod Fields
 mod Records
 mod Cuts

@@ -26,7 +26,7 @@ use Rattle.conversion.specs.Part.{names, part_in, PartBelow}
 use Rattle.conversion.specs.Outcome.{decision, refusal, RefusalStands, HaveOutcome}
 use Rattle.conversion.specs.Table.{Depths, yes_at, Puts}
 use Rattle.conversion.specs.Pending.{work_of, Item, item, items, Ordered, IsWork, weigh, turns, IsYes, InTurn, Follows, IsKept, Going, Moves, Decides}
-use Rattle.conversion.proofs.Verdicts.{below_below, below_not_yes}
+use Rattle.conversion.proofs.Verdicts.{below_below, below_not_yes, decides}
 use Rattle.conversion.proofs.Weights.{turns-pos, weigh_append, weigh_parts, fewer}
 
 abbrev child : ℕ → List ℕ → B.Part → Item
@@ -144,7 +144,7 @@ module _ (g : Signature Term) (s : Solutions) (fuel : ℕ) where
 
   pub refused_in_turn : (p q : Pool) (path to : List ℕ) (w : Work) (is : List Item) (d : ℕ) (r : Refusal) (c : Conv) → to ≡ take w.under path ++ names w.binds → w.depth ≡ suc d → (AreSame s (tree p w.left) (tree p w.right) → ⊥)
       → HaveOutcome g s fuel (tree p w.left) (tree p w.right) q (Refused r) → Decides r to c → IsVerdict (InTurn g s fuel (item p path w ∷ is)) q c
-  refused_in_turn p q path to w is d r c e k n h x = x (InTurn g s fuel (item p path w ∷ is)) q h.stands (inr (
+  refused_in_turn p q path to w is d r c e k n h x = decides (InTurn g s fuel (item p path w ∷ is)) q to r c x h.stands (inr (
     refusal q r,
     subst (λ j. ConvOf g s fuel j (tree p w.left) (tree p w.right) (refusal q r)) (sym k)
         (inr (n, record { left = h.left; right = h.right; is_left = h.is_left; is_right = h.is_right; decided = subst (λ D. Decided (ConvOf g s fuel d) D (refusal q r)) (sym h.is) refl })),

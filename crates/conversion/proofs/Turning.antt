@@ -1,6 +1,6 @@
 -- What the head forms ask for, seen from the pool before.
-use Rattle.std.specs.Prelude.{◌≡◌, ℕ, ◌<◌, List, length, reverse, Option}
-use Rattle.std.proofs.Common.{sym, subst, subst₂}
+use Rattle.std.specs.Prelude.{◌≡◌, ℕ, ◌<◌, List, [], ◌∷◌, length, reverse, Option, None}
+use Rattle.std.proofs.Common.{sym, ap, ◌∙◌, subst, subst₂, arith, inl, inr}
 use Rattle.el_base.proofs.Throughout.{all-reverse}
 use Rattle.core_rules.specs.Term.{Term}
 use Rattle.core_rules.specs.Signature.{Signature}
@@ -14,7 +14,12 @@ use Rattle.conversion.specs.declared.outcome.Outcome.{Outcome}
 use Rattle.conversion.specs.declared.outcome.Outcome.TheVariants.{Parts}
 use Rattle.conversion.specs.Part.{PartBelow}
 use Rattle.conversion.specs.Outcome.{HaveOutcome}
-use Rattle.conversion.specs.Pending.{Going}
+use Rattle.core_rules.specs.Bounded as B
+use Rattle.core_rules.specs.Bounded.{ConvOf, below}
+use Rattle.conversion.specs.declared.pending.Work.{Work}
+use Rattle.conversion.specs.Table.{Depths, yes_at}
+use Rattle.conversion.specs.Pending.{Going, InTurn, Item}
+use Rattle.conversion.proofs.Verdicts.{below_none}
 use Rattle.conversion.proofs.Moves.{HaveParts}
 
 module _ {p q : Pool} (e : Extends p q) (sig : Signature ℕ) (stands : Stands p sig) (f : ℕ → Option ℕ) (known : AreIn p f) where
@@ -35,3 +40,17 @@ module _ {p q : Pool} (e : Extends p q) (sig : Signature ℕ) (stands : Stands p
 
 pub have_parts : (g : Signature Term) (s : Solutions) (fuel : ℕ) (t u : Term) (p : Pool) (ps : _) → HaveOutcome g s fuel t u p (Parts ps) → HaveParts g s fuel t u p (reverse ps.items)
 have_parts g s fuel t u p ps h = record { left = h.left; right = h.right; is_left = h.is_left; is_right = h.is_right; is = h.is; stands = all-reverse (PartBelow (length p.trees)) ps.items h.stands }
+
+-- ---- the first pair
+
+module _ (g : Signature Term) (s : Solutions) (fuel : ℕ) where
+  pub started : (p : Pool) (m : Depths) (w : Work) → w.left < length p.trees → w.right < length p.trees → w.under ≡ 0 → ((i j : ℕ) → yes_at m i j ≡ None) → Going g s fuel p [] m (w ∷ [])
+  started p m w l r u h = record {
+    within = ((l, r, omega (arith, u)), tt);
+    ordered = (tt, tt);
+    kept = λ i j d e. absurd (let n = sym (h i j) ∙ e in cc);
+  }
+
+  pub only_leads : (i : Item) (v : B.Verdict) → i.path ≡ [] → InTurn g s fuel (i ∷ []) v → ConvOf g s fuel i.depth i.left i.right v
+  only_leads i v e (inl h) = subst (ConvOf g s fuel i.depth i.left i.right) (sym h.1) h.0
+  only_leads i v e (inr h) = subst (ConvOf g s fuel i.depth i.left i.right) (sym (h.3 ∙ ap (λ xs. below xs h.0) e ∙ below_none h.0)) h.1

@@ -16,6 +16,10 @@ names (Some x) = x ∷ []
 abbrev pub part_in : (ℕ → Term) → Part → B.Part
 part_in f x = Pair (names x.binds) (f x.left) (f x.right)
 
+-- two terms under no binder
+abbrev pub pair_in : (ℕ → Term) → ℕ × ℕ → B.Part
+pair_in f r = Pair [] (f r.0) (f r.1)
+
 abbrev pub all_in : (ℕ → Term) → List Part → List B.Part
 all_in f xs = map (part_in f) (reverse xs)
 

@@ -11,14 +11,17 @@ use Rattle.conversion.specs.declared.arguments.Part.{Part}
 use Rattle.conversion.specs.declared.outcome.Refusal.{Refusal}
 use Rattle.conversion.specs.declared.pending.Work.{Work}
 use Rattle.conversion.specs.declared.conv.Conv.{Conv}
+use Rattle.conversion.specs.declared.conv.Conv.TheVariants as N
+use Rattle.conversion.specs.declared.outcome.Refusal.TheVariants.{Differ, OutOfFuel, WaitsFor}
 use Rattle.conversion.specs.Conv.{IsVerdict}
 use Rattle.conversion.specs.Part.{names}
-use Rattle.conversion.specs.Outcome.{refusal, RefusalStands}
 use Rattle.conversion.specs.Table.{Depths, yes_at}
 
--- c is the verdict of a refusal under these names, in whatever pool and of whatever the verdict is
-abbrev pub Decides : Refusal → List ℕ → Conv → Type 1
-Decides r path c = (V : B.Verdict → Type 0) (p : Pool) → RefusalStands p r → V (below path (refusal p r)) → IsVerdict V p c
+-- c is the verdict of a refusal under these names
+abbrev pub Decides : Refusal → List ℕ → Conv → Type 0
+Decides (Differ t u) path c = c ≡ N.No t u path
+Decides OutOfFuel path c = c ≡ N.OutOfFuel
+Decides (WaitsFor m) path c = c ≡ N.Blocked m
 
 -- a part as a pair that waits
 abbrev pub work_of : ℕ → ℕ → Part → Work

@@ -3,12 +3,12 @@ ghost use Rattle.core_rules.specs.Term.{Term};
 ghost use Rattle.core_rules.specs.Bounded.{argument_parts, same_flag};
 ghost use Rattle.term_pool.specs.Pool.{Extends, tree};
 ghost use Rattle.weak_head.specs.Elims.{AllBelow, Below, elim_in, spine_in};
-ghost use Rattle.conversion.specs.Part.{PartBelow, PartsBelow, part_in, parts_in};
+ghost use Rattle.conversion.specs.Part.{PartsBelow, pair_in, parts_in};
 ghost use Rattle.conversion.specs.Arguments.{AreLike, argument_part, flag_of};
 
 use core_rules::Flag;
-use core_terms::{FieldId, NameId, NoMemory, Node, TermId, TermPool};
 use std::alloc::Global;
+use term_pool::{FieldId, NameId, NoMemory, Node, TermId, TermPool};
 use weak_head::Elim;
 
 /// Two terms to be compared, under one further binder or none.
@@ -52,10 +52,14 @@ pub(crate) fn argument_parts(
         let [y, others @ ..] = ys else {
             return Ok(None);
         };
-        let Some(part) = argument_part(*x, *y) else {
+        let Some((t, u)) = terms_of(*x, *y) else {
             return Ok(None);
         };
-        parts.push(part)?;
+        parts.push(Part {
+            binds: None,
+            left: t,
+            right: u,
+        })?;
         xs = more;
         ys = others;
     }
@@ -66,25 +70,25 @@ pub(crate) fn argument_parts(
     }
 }
 
-/// Two arguments of one flag as a part.
-fn argument_part(left: Elim, right: Elim) -> Option<Part>
-    ensures is { (f : ℕ → Term) → option_map (part_in f) result ≡ argument_part (elim_in f left) (elim_in f right) }
-    ensures below { IfSome result (λ x. (n : ℕ) → Below n left → Below n right → PartBelow n x) }
+/// The terms of two arguments of one flag.
+fn terms_of(left: Elim, right: Elim) -> Option<(TermId, TermId)>
+    ensures is { (f : ℕ → Term) → option_map (pair_in f) result ≡ argument_part (elim_in f left) (elim_in f right) }
+    ensures below { IfSome result (λ r. (n : ℕ) → Below n left → Below n right → (r.0 < n) × (r.1 < n)) }
 {
     let Elim::Arg { flag, arg } = left else {
         return None;
     };
-    let Elim::Arg { flag: of, arg: other } = right else {
+    let Elim::Arg {
+        flag: of,
+        arg: other,
+    } = right
+    else {
         return None;
     };
     if !same_flag(flag, of) {
         return None;
     }
-    Some(Part {
-        binds: None,
-        left: arg,
-        right: other,
-    })
+    Some((arg, other))
 }
 
 /// The projections of `of` to these fields as arguments with the flags of `like`, where there are as many.

@@ -11,8 +11,9 @@ use crate::conv::Conv;
 use crate::kept::Kept;
 use crate::outcome::{Outcome, Refusal, compare_heads};
 use crate::pending::{Work, enter, open};
-use core_terms::{Limits, NameId, NoMemory, Row, Signature, Solutions, TermId, TermPool, same_term};
+use core_terms::{Signature, Solutions, same_term};
 use std::alloc::Global;
+use term_pool::{Limits, NameId, NoMemory, Row, TermId, TermPool};
 
 /// How far a comparison has come: the pairs that it has opened, the names of the binders around the pair
 /// that it is at, and the pairs that wait, of which the first one is last.

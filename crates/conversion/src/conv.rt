@@ -1,4 +1,4 @@
-use core_terms::{MetaId, NameId, Row, TermId};
+use term_pool::{MetaId, NameId, Row, TermId};
 
 /// The verdict on two terms.
 #[derive(Debug, Drop)]

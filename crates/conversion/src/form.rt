@@ -10,7 +10,8 @@ ghost use Rattle.conversion.specs.Form.{ValueIsArgs, eta, first_takes, has_eta_w
 
 use crate::spine::last_field;
 use core_rules::Flag;
-use core_terms::{ConDecl, ConId, CoreDecl, FamId, NameId, Node, Signature, TermId, TermPool};
+use core_terms::{ConDecl, CoreDecl, Signature};
+use term_pool::{ConId, FamId, NameId, Node, TermId, TermPool};
 use weak_head::Applied;
 
 /// The lambda that a form is.

@@ -1,10 +1,10 @@
 ghost use Rattle.std.specs.Prelude.{◌≡◌, ◌≤◌, ◌↔◌, ℕ, Some, None, OnOk, IsTrue};
 ghost use Rattle.conversion.specs.Table.{yes_at, Puts};
 
-use core_terms::{NoMemory, TermId};
 use std::alloc::Global;
 use std::collections::HashMap;
 use std::marker::Model;
+use term_pool::{NoMemory, TermId};
 
 /// The pairs that this call has opened, each with the depth of the last time. Their parts come first, so at a
 /// pair that is met again these are done with, and were all yes.

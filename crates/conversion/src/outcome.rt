@@ -10,8 +10,9 @@ ghost use Rattle.conversion.specs.Outcome.{HaveOutcome, OutcomeStands, ReducedBe
 
 use crate::arguments::Part;
 use crate::parts::parts_of;
-use core_terms::{MetaId, NoMemory, Signature, Solutions, TermId, TermPool};
+use core_terms::{Signature, Solutions};
 use std::alloc::Global;
+use term_pool::{MetaId, NoMemory, TermId, TermPool};
 use weak_head::{Applied, Reduced, applied, reduce};
 
 /// Why two head forms give no parts.

@@ -1,11 +1,11 @@
 ghost use Rattle.std.specs.Prelude.{◌≡◌, ◌∷◌, [], ℕ, ◌<◌, length, cond, Some, IfOk, IfSome};
 ghost use Rattle.core_rules.specs.Term.{Term};
 ghost use Rattle.core_rules.specs.Signature.{fields_of};
-ghost use Rattle.core_rules.specs.Elimination.{elims};
-ghost use Rattle.core_rules.specs.Bounded.{Decision, Pair, Parts, applied, parts_or, same_flag};
+ghost use Rattle.core_rules.specs.Elimination.{elims, projections};
+ghost use Rattle.core_rules.specs.Bounded.{Decision, Pair, Parts, applied, parts_or, same_flag, term_parts, with_part};
 ghost use Rattle.term_pool.specs.Pool.{Extends, Pool, StandsFor, tree};
 ghost use Rattle.core_terms.specs.Signature.{Stands, signature_in};
-ghost use Rattle.weak_head.specs.Elims.{AllBelow, spine_in};
+ghost use Rattle.weak_head.specs.Elims.{AllBelow, AreArgs, args_of, spine_in};
 ghost use Rattle.weak_head.specs.States.{AppliedBelow};
 ghost use Rattle.conversion.specs.Arguments.{AreLike};
 ghost use Rattle.conversion.specs.Forms.{by_cuts, by_field_of, by_kind_of, by_lambda_of};
@@ -17,8 +17,9 @@ use crate::form::{Eta, Lambda, as_lambda, eta_of, kind_of};
 use crate::heads::head_parts;
 use crate::spine::{Cut, applied_to, last_field};
 use core_rules::Flag;
-use core_terms::{FamId, FieldId, NameId, NoMemory, Node, Signature, TermId, TermPool, shift};
+use core_terms::Signature;
 use std::alloc::Global;
+use term_pool::{FamId, FieldId, NameId, NoMemory, Node, TermId, TermPool, shift};
 use weak_head::{Applied, Elim, applied};
 
 /// The parts of two forms, the first part last; none where they differ.
@@ -119,21 +120,62 @@ fn kind_parts(
         ≡ by_kind_of (tree pool.old) q (signature_in pool.old sig.now) left.now right.now) }
     ensures below { IfOk result (PartsBelow (length pool.new.trees)) }
 {
-    match eta_of(kind_of(pool, sig, left), kind_of(pool, sig, right)) {
-        Eta::Left(fam) => {
-            let Some(other) = fields_like(alloc, pool, sig, fam, right, left)? else {
-                return Ok(None);
-            };
-            argument_parts(alloc, left.spine.as_slice(), other.as_slice())
-        }
-        Eta::Right(fam) => {
-            let Some(other) = fields_like(alloc, pool, sig, fam, left, right)? else {
-                return Ok(None);
-            };
-            argument_parts(alloc, other.as_slice(), right.spine.as_slice())
-        }
+    let first = kind_of(pool, sig, left);
+    let second = kind_of(pool, sig, right);
+    match eta_of(first, second) {
+        Eta::Left(fam) => left_parts(alloc, pool, sig, fam, left, right),
+        Eta::Right(fam) => right_parts(alloc, pool, sig, fam, left, right),
         Eta::None => field_parts(alloc, pool, left, right),
     }
+}
+
+/// The fields of the left side with the projections of the right one.
+fn left_parts(
+    alloc: Global,
+    pool: &mut TermPool,
+    sig: &Signature,
+    fam: FamId,
+    left: &Applied,
+    right: &Applied,
+) -> Result<Option<Vec<Part>>, NoMemory>
+    requires left { AppliedBelow (length pool.old.trees) left.now }
+    requires right { AppliedBelow (length pool.old.trees) right.now }
+    requires args { AreArgs (spine_in (tree pool.old) left.now.spine.items) }
+    ensures extends { Extends pool.old pool.new }
+    ensures is { IfOk result (λ o. parts_in (tree pool.new) o ≡ term_parts (args_of (spine_in (tree pool.old) left.now.spine.items))
+        (projections (signature_in pool.old sig.now) fam (elims (tree pool.old right.now.head) (spine_in (tree pool.old) right.now.spine.items)))) }
+    ensures below { IfOk result (PartsBelow (length pool.new.trees)) }
+{
+    let found = fields_like(alloc, pool, sig, fam, right, left)?;
+    let Some(fields) = found else {
+        return Ok(None);
+    };
+    argument_parts(alloc, left.spine.as_slice(), fields.as_slice())
+}
+
+/// The projections of the left side with the fields of the right one.
+fn right_parts(
+    alloc: Global,
+    pool: &mut TermPool,
+    sig: &Signature,
+    fam: FamId,
+    left: &Applied,
+    right: &Applied,
+) -> Result<Option<Vec<Part>>, NoMemory>
+    requires left { AppliedBelow (length pool.old.trees) left.now }
+    requires right { AppliedBelow (length pool.old.trees) right.now }
+    requires args { AreArgs (spine_in (tree pool.old) right.now.spine.items) }
+    ensures extends { Extends pool.old pool.new }
+    ensures is { IfOk result (λ o. parts_in (tree pool.new) o ≡ term_parts
+        (projections (signature_in pool.old sig.now) fam (elims (tree pool.old left.now.head) (spine_in (tree pool.old) left.now.spine.items)))
+        (args_of (spine_in (tree pool.old) right.now.spine.items))) }
+    ensures below { IfOk result (PartsBelow (length pool.new.trees)) }
+{
+    let found = fields_like(alloc, pool, sig, fam, left, right)?;
+    let Some(fields) = found else {
+        return Ok(None);
+    };
+    argument_parts(alloc, fields.as_slice(), right.spine.as_slice())
 }
 
 /// The projections of `form` to the fields of a record, with the flags of `value`, where it has as many
@@ -210,14 +252,28 @@ fn projection_parts(
         ≡ by_cuts q (tree pool.old left) (cut_in (tree pool.old) cut.now) (tree pool.old right) (cut_in (tree pool.old) other.now)) }
     ensures below { IfOk result (PartsBelow (length pool.new.trees)) }
 {
-    if cut.field != other.field {
+    if cut.field.number() != other.field.number() {
         return Ok(None);
     }
-    let Some(mut parts) = argument_parts(alloc, cut.after, other.after)? else {
+    let first = applied_to(alloc, pool, left, cut.before)?;
+    let second = applied_to(alloc, pool, right, other.before)?;
+    let rest = argument_parts(alloc, cut.after, other.after)?;
+    with_first(rest, first, second)
+}
+
+/// Two terms before other parts.
+fn with_first(
+    rest: Option<Vec<Part>>,
+    left: TermId,
+    right: TermId,
+) -> Result<Option<Vec<Part>>, NoMemory>
+    ensures is { IfOk result (λ o. (f : ℕ → Term) → parts_in f o ≡ with_part (Pair [] (f left) (f right)) (parts_in f rest)) }
+    ensures below { IfOk result (λ o. (n : ℕ) → left < n → right < n → PartsBelow n rest → PartsBelow n o) }
+{
+    let Some(parts) = rest else {
         return Ok(None);
     };
-    let left = applied_to(alloc, pool, left, cut.before)?;
-    let right = applied_to(alloc, pool, right, other.before)?;
+    let mut parts = parts;
     parts.push(Part {
         binds: None,
         left,

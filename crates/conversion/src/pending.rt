@@ -3,7 +3,7 @@ ghost use Rattle.conversion.specs.Part.{names};
 ghost use Rattle.conversion.specs.Pending.{work_of};
 
 use crate::arguments::Part;
-use core_terms::{NameId, NoMemory, TermId};
+use term_pool::{NameId, NoMemory, TermId};
 
 /// A pair that waits, under the first `under` names of the path and one more or none.
 #[derive(Clone, Copy)]

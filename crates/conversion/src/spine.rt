@@ -6,9 +6,9 @@ ghost use Rattle.term_pool.specs.Pool.{Extends, StandsFor, tree};
 ghost use Rattle.weak_head.specs.Elims.{AllBelow, spine_in};
 ghost use Rattle.conversion.specs.Spine.{CutBelow, cut_in};
 
-use core_terms::{FieldId, NoMemory, TermId, TermPool};
 use smallvec::SmallVec;
 use std::alloc::Global;
+use term_pool::{FieldId, NoMemory, TermId, TermPool};
 use weak_head::{Applied, Elim, applied};
 
 /// A projection with the eliminations before it and those after it, the first of each last.

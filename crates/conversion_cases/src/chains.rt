@@ -1,7 +1,7 @@
 use crate::atoms::{add_atoms, numeral};
 use crate::fault::Fault;
 use crate::terms::{call, lambda, repeat};
-use crate::world::{World, pair};
+use crate::world::{World, both};
 use core_rules::Flag;
 use core_terms::{TermId, TermPool};
 
@@ -12,8 +12,8 @@ pub fn numerals(rt: &HostRuntime) -> Result<(), Fault> {
     let plain = numeral(&mut pool, &atoms, 2000)?;
     let other = repeat(&mut pool, atoms.suc, atoms.redex, 2000)?;
     let mut world = World::over(rt.alloc(), pool, &atoms, None)?;
-    world.see(rt, "2,000 constructors", pair(plain, other), 1, 2001)?;
-    world.see(rt, "2,000 constructors", pair(plain, other), 1, 2000)
+    world.see(rt, "2,000 constructors", both(plain, other), 1, 2001)?;
+    world.see(rt, "2,000 constructors", both(plain, other), 1, 2000)
 }
 
 fn lambdas_over(pool: &mut TermPool, dom: TermId, body: TermId) -> Result<TermId, Fault> {
@@ -31,6 +31,6 @@ pub fn lambdas(rt: &HostRuntime) -> Result<(), Fault> {
     let left = lambdas_over(&mut pool, atoms.ty, atoms.zero)?;
     let right = lambdas_over(&mut pool, atoms.ty, one)?;
     let mut world = World::over(rt.alloc(), pool, &atoms, None)?;
-    world.run(rt, "2,000 lambdas", pair(left, right), pair(atoms.zero, one), 0, 2001)?;
-    world.see(rt, "2,000 lambdas", pair(left, right), 0, 2000)
+    world.run(rt, "2,000 lambdas", both(left, right), both(atoms.zero, one), 0, 2001)?;
+    world.see(rt, "2,000 lambdas", both(left, right), 0, 2000)
 }

@@ -1,7 +1,7 @@
 use crate::atoms::add_atoms;
 use crate::fault::Fault;
 use crate::terms::{call, call_two, lambda, variable};
-use crate::world::{World, pair};
+use crate::world::{World, both};
 use core_rules::Flag;
 use core_terms::{TermId, TermPool};
 
@@ -30,12 +30,12 @@ pub fn doubled(rt: &HostRuntime) -> Result<(), Fault> {
     let pairs = doubled_term(&mut pool, atoms.pair, atoms.zero)?;
     let other_pairs = doubled_term(&mut pool, atoms.pair, atoms.redex)?;
     let mut world = World::over(rt.alloc(), pool, &atoms, None)?;
-    world.see(rt, "doubled, the same", pair(named, other), 0, 1)?;
-    world.see(rt, "doubled, a step at each leaf", pair(zeros, redexes), 1, 201)?;
-    world.see(rt, "doubled, a step at each leaf", pair(zeros, redexes), 1, 200)?;
-    world.see(rt, "doubled, a step at each leaf", pair(zeros, redexes), 0, 201)?;
-    world.see(rt, "doubled pairs, a step at each leaf", pair(pairs, other_pairs), 1, 201)?;
-    world.run(rt, "doubled, other leaves", pair(redexes, ones), pair(atoms.zero, one), 1, 201)
+    world.see(rt, "doubled, the same", both(named, other), 0, 1)?;
+    world.see(rt, "doubled, a step at each leaf", both(zeros, redexes), 1, 201)?;
+    world.see(rt, "doubled, a step at each leaf", both(zeros, redexes), 1, 200)?;
+    world.see(rt, "doubled, a step at each leaf", both(zeros, redexes), 0, 201)?;
+    world.see(rt, "doubled pairs, a step at each leaf", both(pairs, other_pairs), 1, 201)?;
+    world.run(rt, "doubled, other leaves", both(redexes, ones), both(atoms.zero, one), 1, 201)
 }
 
 /// n is 1 by a step at its zero: with 1 it needs two levels. The second arguments have n one level
@@ -49,6 +49,6 @@ pub fn kept(rt: &HostRuntime) -> Result<(), Fault> {
     let left = call_two(&mut pool, atoms.x, n, above)?;
     let right = call_two(&mut pool, atoms.x, one, two)?;
     let mut world = World::over(rt.alloc(), pool, &atoms, None)?;
-    world.see(rt, "a pair met again further down", pair(left, right), 1, 3)?;
-    world.see(rt, "a pair met again further down", pair(left, right), 1, 4)
+    world.see(rt, "a pair met again further down", both(left, right), 1, 3)?;
+    world.see(rt, "a pair met again further down", both(left, right), 1, 4)
 }

@@ -1,7 +1,7 @@
 use crate::atoms::add_atoms;
 use crate::fault::Fault;
 use crate::terms::{apply, call, call_two, lambda, project, variable};
-use crate::world::{World, pair};
+use crate::world::{World, both};
 use core_rules::Flag;
 use core_terms::TermPool;
 
@@ -21,13 +21,13 @@ fn values(rt: &HostRuntime) -> Result<(), Fault> {
     let half = apply(&mut pool, Flag::Implicit, atoms.pair, x0)?;
     let braces = apply(&mut pool, Flag::Implicit, half, x1)?;
     let mut world = World::over(rt.alloc(), pool, &atoms, None)?;
-    world.see(rt, "a pair with x", pair(whole, atoms.x), 0, 2)?;
-    world.see(rt, "a pair with x", pair(whole, atoms.x), 0, 1)?;
-    world.see(rt, "x with a pair", pair(atoms.x, whole), 0, 2)?;
-    world.see(rt, "a pair in braces with x", pair(braces, atoms.x), 0, 2)?;
-    world.run(rt, "another first field", pair(first, atoms.x), pair(atoms.zero, x0), 9, 9)?;
-    world.run(rt, "another second field", pair(second, atoms.x), pair(atoms.zero, x1), 9, 9)?;
-    world.run(rt, "x with another second field", pair(atoms.x, second), pair(x1, atoms.zero), 9, 9)
+    world.see(rt, "a pair with x", both(whole, atoms.x), 0, 2)?;
+    world.see(rt, "a pair with x", both(whole, atoms.x), 0, 1)?;
+    world.see(rt, "x with a pair", both(atoms.x, whole), 0, 2)?;
+    world.see(rt, "a pair in braces with x", both(braces, atoms.x), 0, 2)?;
+    world.run(rt, "another first field", both(first, atoms.x), both(atoms.zero, x0), 9, 9)?;
+    world.run(rt, "another second field", both(second, atoms.x), both(atoms.zero, x1), 9, 9)?;
+    world.run(rt, "x with another second field", both(atoms.x, second), both(x1, atoms.zero), 9, 9)
 }
 
 /// A pair against a pair, with too few fields, or against another constructor; a record without fields.
@@ -39,12 +39,12 @@ fn no_values(rt: &HostRuntime) -> Result<(), Fault> {
     let right = call_two(&mut pool, atoms.pair, atoms.redex, atoms.zero)?;
     let half = call(&mut pool, atoms.pair, x0)?;
     let mut world = World::over(rt.alloc(), pool, &atoms, None)?;
-    world.see(rt, "two pairs", pair(left, right), 1, 2)?;
-    world.see(rt, "half a pair with x", pair(half, atoms.x), 9, 9)?;
-    world.see(rt, "a pair with zero", pair(left, atoms.zero), 9, 9)?;
-    world.see(rt, "a pair with ?3", pair(left, atoms.hole), 9, 9)?;
-    world.see(rt, "a record without fields with x", pair(atoms.unit, atoms.x), 9, 9)?;
-    world.see(rt, "x with a record without fields", pair(atoms.x, atoms.unit), 9, 9)
+    world.see(rt, "two pairs", both(left, right), 1, 2)?;
+    world.see(rt, "half a pair with x", both(half, atoms.x), 9, 9)?;
+    world.see(rt, "a pair with zero", both(left, atoms.zero), 9, 9)?;
+    world.see(rt, "a pair with ?3", both(left, atoms.hole), 9, 9)?;
+    world.see(rt, "a record without fields with x", both(atoms.unit, atoms.x), 9, 9)?;
+    world.see(rt, "x with a record without fields", both(atoms.x, atoms.unit), 9, 9)
 }
 
 /// A lambda against what is none: its body with the other side at the new variable, in the lambda's
@@ -61,13 +61,13 @@ pub fn functions(rt: &HostRuntime) -> Result<(), Fault> {
     let constant = lambda(&mut pool, Flag::Explicit, 1, atoms.ty, atoms.zero)?;
     let (of_x, of_whole) = (call(&mut pool, atoms.family, atoms.x)?, call(&mut pool, atoms.family, whole)?);
     let mut world = World::over(rt.alloc(), pool, &atoms, None)?;
-    world.see(rt, "P x with P of a lambda", pair(of_x, of_whole), 0, 3)?;
-    world.see(rt, "P x with P of a lambda", pair(of_x, of_whole), 100_000, 1)?;
-    world.see(rt, "a lambda with x", pair(whole, atoms.x), 0, 2)?;
-    world.see(rt, "a lambda with x", pair(whole, atoms.x), 0, 1)?;
-    world.see(rt, "x with a lambda", pair(atoms.x, whole), 0, 2)?;
-    world.see(rt, "an implicit lambda with x", pair(braces, atoms.x), 0, 2)?;
-    world.run(rt, "an implicit lambda at an explicit argument", pair(mixed, atoms.x), pair(at, at_braces), 9, 9)?;
-    world.run(rt, "a constant lambda with x", pair(constant, atoms.x), pair(atoms.zero, at), 9, 9)?;
-    world.run(rt, "x with a constant lambda", pair(atoms.x, constant), pair(at, atoms.zero), 9, 9)
+    world.see(rt, "P x with P of a lambda", both(of_x, of_whole), 0, 3)?;
+    world.see(rt, "P x with P of a lambda", both(of_x, of_whole), 100_000, 1)?;
+    world.see(rt, "a lambda with x", both(whole, atoms.x), 0, 2)?;
+    world.see(rt, "a lambda with x", both(whole, atoms.x), 0, 1)?;
+    world.see(rt, "x with a lambda", both(atoms.x, whole), 0, 2)?;
+    world.see(rt, "an implicit lambda with x", both(braces, atoms.x), 0, 2)?;
+    world.run(rt, "an implicit lambda at an explicit argument", both(mixed, atoms.x), both(at, at_braces), 9, 9)?;
+    world.run(rt, "a constant lambda with x", both(constant, atoms.x), both(atoms.zero, at), 9, 9)?;
+    world.run(rt, "x with a constant lambda", both(atoms.x, constant), both(at, atoms.zero), 9, 9)
 }

@@ -1,7 +1,7 @@
 use crate::atoms::{add_atoms, numeral};
 use crate::fault::Fault;
 use crate::terms::{call, call_two};
-use crate::world::{World, pair};
+use crate::world::{World, both};
 use core_terms::TermPool;
 
 /// The family at turn zero, which comes to itself without end. With itself it is the same term, which
@@ -15,12 +15,12 @@ pub fn loops(rt: &HostRuntime) -> Result<(), Fault> {
     let other = call(&mut pool, atoms.turn, atoms.redex)?;
     let at_other = call(&mut pool, atoms.family, other)?;
     let mut world = World::over(rt.alloc(), pool, &atoms, None)?;
-    world.see(rt, "P (turn zero) with itself", pair(at, at), 0, 1)?;
-    world.see(rt, "P (turn zero) with itself", pair(at, at), 0, 0)?;
-    world.see(rt, "zero with itself", pair(atoms.zero, atoms.zero), 9, 0)?;
-    world.see(rt, "P (turn zero) with P (turn redex)", pair(at, at_other), 1000, 5)?;
-    world.see(rt, "P (turn zero) with P (turn redex)", pair(at, at_other), 1000, 1)?;
-    world.see(rt, "P (turn zero) with turn zero", pair(at, turned), 0, 1)
+    world.see(rt, "P (turn zero) with itself", both(at, at), 0, 1)?;
+    world.see(rt, "P (turn zero) with itself", both(at, at), 0, 0)?;
+    world.see(rt, "zero with itself", both(atoms.zero, atoms.zero), 9, 0)?;
+    world.see(rt, "P (turn zero) with P (turn redex)", both(at, at_other), 1000, 5)?;
+    world.see(rt, "P (turn zero) with P (turn redex)", both(at, at_other), 1000, 1)?;
+    world.see(rt, "P (turn zero) with turn zero", both(at, turned), 0, 1)
 }
 
 /// plus 1 2 comes to suc (plus 0 2) in a step, and plus 0 2 to 2 in one. So 3 levels are needed: the
@@ -34,12 +34,12 @@ pub fn sums(rt: &HostRuntime) -> Result<(), Fault> {
     let (many, twice) = (numeral(&mut pool, &atoms, 2000)?, numeral(&mut pool, &atoms, 4000)?);
     let large = call_two(&mut pool, atoms.plus, many, many)?;
     let mut world = World::over(rt.alloc(), pool, &atoms, None)?;
-    world.see(rt, "plus 1 2 with 3", pair(sum, three), 1, 3)?;
-    world.see(rt, "plus 1 2 with 3", pair(sum, three), 0, 3)?;
-    world.see(rt, "plus 1 2 with 3", pair(sum, three), 1, 2)?;
-    world.run(rt, "plus 1 2 with 2", pair(sum, two), pair(one, atoms.zero), 1, 9)?;
-    world.see(rt, "plus 2000 2000 with 4000", pair(large, twice), 1, 2002)?;
-    world.see(rt, "plus 2000 2000 with 4000", pair(large, twice), 1, 2001)
+    world.see(rt, "plus 1 2 with 3", both(sum, three), 1, 3)?;
+    world.see(rt, "plus 1 2 with 3", both(sum, three), 0, 3)?;
+    world.see(rt, "plus 1 2 with 3", both(sum, three), 1, 2)?;
+    world.run(rt, "plus 1 2 with 2", both(sum, two), both(one, atoms.zero), 1, 9)?;
+    world.see(rt, "plus 2000 2000 with 4000", both(large, twice), 1, 2002)?;
+    world.see(rt, "plus 2000 2000 with 4000", both(large, twice), 1, 2001)
 }
 
 /// Out of fuel comes before blocked, and a metavariable on the left before one on the right. A
@@ -49,12 +49,12 @@ pub fn blocked(rt: &HostRuntime) -> Result<(), Fault> {
     let atoms = add_atoms(&mut pool)?;
     let on_hole = call_two(&mut pool, atoms.plus, atoms.hole, atoms.x)?;
     let mut world = World::over(rt.alloc(), pool, &atoms, None)?;
-    world.see(rt, "?3 with ?4", pair(atoms.hole, atoms.other_hole), 0, 1)?;
-    world.see(rt, "?4 with ?3", pair(atoms.other_hole, atoms.hole), 0, 1)?;
-    world.see(rt, "x with ?4", pair(atoms.x, atoms.other_hole), 0, 1)?;
-    world.see(rt, "plus ?3 x with ?4", pair(on_hole, atoms.other_hole), 0, 1)?;
-    world.see(rt, "?3 with itself", pair(atoms.hole, atoms.hole), 0, 1)?;
-    world.see(rt, "redex with ?3", pair(atoms.redex, atoms.hole), 0, 1)?;
-    world.see(rt, "redex with ?3", pair(atoms.redex, atoms.hole), 1, 1)?;
-    world.see(rt, "?3 with redex", pair(atoms.hole, atoms.redex), 0, 1)
+    world.see(rt, "?3 with ?4", both(atoms.hole, atoms.other_hole), 0, 1)?;
+    world.see(rt, "?4 with ?3", both(atoms.other_hole, atoms.hole), 0, 1)?;
+    world.see(rt, "x with ?4", both(atoms.x, atoms.other_hole), 0, 1)?;
+    world.see(rt, "plus ?3 x with ?4", both(on_hole, atoms.other_hole), 0, 1)?;
+    world.see(rt, "?3 with itself", both(atoms.hole, atoms.hole), 0, 1)?;
+    world.see(rt, "redex with ?3", both(atoms.redex, atoms.hole), 0, 1)?;
+    world.see(rt, "redex with ?3", both(atoms.redex, atoms.hole), 1, 1)?;
+    world.see(rt, "?3 with redex", both(atoms.hole, atoms.redex), 0, 1)
 }

@@ -22,7 +22,7 @@ pub struct Pair {
     pub right: TermId,
 }
 
-pub fn pair(left: TermId, right: TermId) -> Pair {
+pub fn both(left: TermId, right: TermId) -> Pair {
     Pair { left, right }
 }
 

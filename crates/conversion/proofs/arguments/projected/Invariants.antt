@@ -5,8 +5,8 @@ use Rattle.weak_head.specs.Elims.{AllBelow, AreArgs, args_of, spine_in}
 use Rattle.conversion.specs.Arguments.{flag_of}
 use Rattle.conversion.proofs.arguments.projected.Given as goal
 
-abbrev pub invariant-loop-x : goal.invariant-loop-x
-invariant-loop-x l = record {
+abbrev pub invariant-loop-xs : goal.invariant-loop-xs
+invariant-loop-xs l = record {
   extends : Extends l.fn.pool l.pool;
   below : AllBelow (length l.pool.trees) l.made.items;
   args : AreArgs (spine_in (tree l.pool) l.made.items);
@@ -15,5 +15,5 @@ invariant-loop-x l = record {
   lengths : length l.left + length l.like ≡ length l.fields + length l.xs;
 }
 
-abbrev pub decreases-loop-x : goal.decreases-loop-x
-decreases-loop-x l = length l.xs
+abbrev pub decreases-loop-xs : goal.decreases-loop-xs
+decreases-loop-xs l = length l.xs
