@@ -1,13 +1,15 @@
 -- The last projection of eliminations, which comes first in code.
-use Rattle.std.specs.Prelude.{◌≡◌, eqb, true, cond, ℕ, zero, suc, ◌+◌, ◌<◌, List, [], ◌∷◌, ◌++◌, length, map, reverse, take, drop, get_or, ◌-◌, slice_get, Option, Some, None, option_map, refl}
+use Rattle.std.specs.Prelude.{◌≡◌, eqb, true, false, is_some, cond, ℕ, zero, suc, ◌+◌, ◌<◌, List, [], ◌∷◌, ◌++◌, length, map, reverse, take, drop, get_or, ◌-◌, slice_get, Option, Some, None, option_map, refl}
 use Rattle.std.specs.List.{AllByRecursion}
 use Rattle.std.proofs.Common.{arith, ap, ap₂, sym, ◌∙◌, subst}
 use Rattle.std.proofs.lemmas.Grind.{common_steps}
-use Rattle.std.proofs.lemmas.List.{reverse-append, map-append, append_assoc, take-append-drop, take_all, length-drop}
+use Rattle.std.proofs.lemmas.List.{reverse-append, map-append, append_assoc, take-append-drop, take_all, length-drop, length-map, length-reverse}
 use Rattle.el_base.proofs.Throughout.{all-reverse, all-map}
 use Rattle.core_rules.specs.Term.{Term}
 use Rattle.core_rules.specs.Elimination.{Elim, Arg, Field, elims}
 use Rattle.core_rules.specs.Bounded.{Decision, Cut, Pair, cut_more, last_field, by_field, same_heads, parts_or, with_part, argument_parts}
+use Rattle.conversion.specs.declared.spine.Cut as C
+use Rattle.conversion.specs.Spine.{cut_in}
 use Rattle.conversion.specs.Forms.{by_cuts}
 use Rattle.weak_head.specs.declared.elim.Elim as E
 use Rattle.weak_head.specs.declared.elim.Elim.TheVariants as V
@@ -93,3 +95,16 @@ module _ (q : Decision) (h : Term) (es : List Elim) (k : Term) (ds : List Elim) 
 
   pub cuts_right : (d : Cut) → None ≡ last_field es → Some d ≡ last_field ds → q ≡ by_field q h es k ds (last_field es) (last_field ds)
   cuts_right d e f = let a : _ = λ i. by_field q h es k ds (e i) (f i) in a
+
+-- ---- what the code knows of a last projection
+
+pub args_by : (f : ℕ → Term) (es : List Elim) (o : Option C.Cut) → is_some o ≡ false → option_map (cut_in f) o ≡ last_field es → AreArgs es
+args_by f es None e h = args_alone es (sym h)
+args_by f es (Some c) e h = absurd cc
+
+pub no_args_by : (f : ℕ → Term) (es : List Elim) (o : Option C.Cut) → is_some o ≡ true → option_map (cut_in f) o ≡ last_field es → AreArgs es → ⊥
+no_args_by f es None e h a = absurd cc
+no_args_by f es (Some c) e h a = absurd (let n = h ∙ no_field es a in cc)
+
+pub length_spine : (f : ℕ → Term) (xs : List E.Elim) → length (spine_in f xs) ≡ length xs
+length_spine f xs = length-map (reverse xs) (elim_in f) ∙ length-reverse xs

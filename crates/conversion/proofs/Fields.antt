@@ -1,5 +1,5 @@
 -- The fields of a value against the projections of another term.
-use Rattle.std.specs.Prelude.{◌≡◌, ◌≢◌, ℕ, zero, suc, Bool, true, false, cond, List, [], ◌∷◌, ◌++◌, length, map, reverse, Option, Some, None, option_map, refl}
+use Rattle.std.specs.Prelude.{◌≡◌, ◌≢◌, ℕ, zero, suc, Bool, true, false, cond, List, [], ◌∷◌, ◌++◌, length, map, reverse, Option, Some, None, IfSome, option_map, refl}
 use Rattle.std.proofs.Common.{arith, ap, ap₂, sym, ◌∙◌, subst}
 use Rattle.std.proofs.lemmas.List.{length-map, length-reverse}
 use Rattle.el_base.proofs.Lists.{map-reverse}
@@ -12,13 +12,14 @@ use Rattle.core_rules.specs.Bounded as B
 use Rattle.core_rules.specs.Bounded.{Decision, Pair, argument_parts, by_field, by_kind, last_field, parts_or, same_flag, term_parts, with_part}
 use Rattle.weak_head.specs.declared.elim.Elim as E
 use Rattle.weak_head.specs.declared.elim.Elim.TheVariants as V
-use Rattle.weak_head.specs.Elims.{elim_in, spine_in, AreArgs, args_of}
+use Rattle.weak_head.specs.Elims.{elim_in, spine_in, AllBelow, AreArgs, args_of}
 use Rattle.conversion.specs.declared.form.Kind as K
 use Rattle.conversion.specs.declared.form.Kind.TheVariants as KV
 use Rattle.conversion.specs.declared.form.Eta as X
 use Rattle.conversion.specs.declared.form.Eta.TheVariants as XV
 use Rattle.conversion.specs.Form.{eta, kind_in, ValueIsArgs}
-use Rattle.conversion.specs.Arguments.{flag_of, IsProjected}
+use Rattle.std.specs.declared.vec.Vec.{Vec}
+use Rattle.conversion.specs.Arguments.{flag_of, IsProjected, AreLike}
 
 -- ---- arguments of the same flags
 
@@ -108,7 +109,7 @@ right_args ds KV.Neither KV.Neither c e h = absurd cc
 -- ---- the fields of a value, where f gives the trees of ids
 
 module _ (f : ℕ → Term) (fields : List ℕ) (t : Term) (ys : List E.Elim) (a : AreArgs (spine_in f ys)) where
-  abbrev fields_at : List Term
+  abbrev pub fields_at : List Term
   fields_at = map (λ k. Proj k t) fields
 
   pub apart_left : length fields ≢ length ys → term_parts (args_of (spine_in f ys)) fields_at ≡ None
@@ -126,3 +127,15 @@ module _ (f : ℕ → Term) (fields : List ℕ) (t : Term) (ys : List E.Elim) (a
 
     pub value_right : argument_parts (spine_in f xs) (spine_in f ys) ≡ term_parts fields_at (args_of (spine_in f ys))
     value_right = like_parts (spine_in f xs) (spine_in f ys) h.args a same_flags ∙ ap (λ us. term_parts us (args_of (spine_in f ys))) h.terms
+
+-- ---- what the code has found
+
+pub like_none : {A : Type 0} (f : ℕ → Term) (fields : List ℕ) (t : Term) (ys : List E.Elim) (o : Option (Vec E.Elim A)) → ((v : Vec E.Elim A) → o ≡ Some v → ⊥) → AreLike f fields t ys o → length fields ≢ length ys
+like_none f fields t ys None n h = h
+like_none f fields t ys (Some v) n h = absurd (n v refl)
+
+pub like_some : {A : Type 0} (f : ℕ → Term) (fields : List ℕ) (t : Term) (ys : List E.Elim) (o : Option (Vec E.Elim A)) (v : Vec E.Elim A) → o ≡ Some v → AreLike f fields t ys o → IsProjected f fields t ys v.items
+like_some f fields t ys o v e h = subst (AreLike f fields t ys) e h
+
+pub below_some : {A : Type 0} (n : ℕ) (o : Option (Vec E.Elim A)) (v : Vec E.Elim A) → o ≡ Some v → IfSome o (λ xs. AllBelow n xs.items) → AllBelow n v.items
+below_some n o v e h = subst (λ o. IfSome o (λ xs. AllBelow n xs.items)) e h

@@ -1,5 +1,8 @@
 -- The parts of two heads, by their nodes.
-use Rattle.std.specs.Prelude.{◌≡◌, ℕ, Bool, true, false, eqb, cond, List, [], ◌∷◌, Option, Some, None, option_map, refl}
+use Rattle.std.specs.Prelude.{◌≡◌, ◌==◌, ℕ, Bool, true, false, eqb, cond, List, [], ◌∷◌, ◌++◌, length, Option, Some, None, option_map, refl}
+use Rattle.std.proofs.Common.{rules, ap, ◌∙◌}
+use Rattle.weak_head.specs.declared.elim.Elim as E
+use Rattle.weak_head.specs.Elims.{elim_in, spine_in}
 use Rattle.core_rules.specs.declared.Flag.{Flag}
 use Rattle.core_rules.specs.Term.{Term}
 use Rattle.core_rules.specs.Elimination.{Elim}
@@ -9,8 +12,10 @@ use Rattle.term_pool.specs.Pool.{node_tree}
 use Rattle.term_pool.specs.declared.node.Node.{Node}
 use Rattle.term_pool.specs.declared.node.Node.TheVariants as N
 use Rattle.conversion.specs.declared.arguments.Part.{Part}
-use Rattle.conversion.specs.Part.{all_in}
-use Rattle.conversion.specs.Heads.{is_same_head, rigid, bare, bare_parts}
+use Rattle.std.specs.declared.vec.Vec.{Vec}
+use Rattle.conversion.specs.Part.{all_in, parts_in}
+use Rattle.conversion.specs.Heads.{is_same_head, rigid, bare, bare_parts, items_of}
+use Rattle.conversion.proofs.Zip.{spine_cons}
 
 -- parts that two heads have where nothing is applied
 abbrev pub if_bare : Decision → Option (List B.Part) → List Elim → List Elim → Decision
@@ -109,3 +114,23 @@ module _ (f : ℕ → Term) (q : Decision) where
   heads_by_nodes (N.Con i a) (N.Meta j d) es ds = refl
   heads_by_nodes (N.Proj i t) n es ds = refl
   heads_by_nodes (N.Meta i a) n es ds = refl
+
+  pub heads_apart : (a b : Node) (es ds : List Elim) → is_same_head (rigid a) (rigid b) ≡ false → same_heads q (node_tree f a) es (node_tree f b) ds ≡ if_bare q (option_map (all_in f) (bare_parts (bare a) (bare b))) es ds
+  heads_apart a b es ds e = heads_by_nodes a b es ds ∙ ap (λ t. cond t (parts_or q (argument_parts es ds)) (if_bare q (option_map (all_in f) (bare_parts (bare a) (bare b))) es ds)) e
+
+  bare_push : (o : Option (List B.Part)) (es ds : List Elim) (e : Elim) → if_bare q o (es ++ e ∷ []) ds ≡ q
+  bare_push None es ds e = refl
+  bare_push (Some ps) [] ds e = refl
+  bare_push (Some ps) (d ∷ es) ds e = refl
+
+  pub not_bare : (o : Option (List B.Part)) (xs : List E.Elim) (ds : List Elim) → (length xs == 0) ≡ false → if_bare q o (spine_in f xs) ds ≡ q
+  not_bare o [] ds n = search rules
+  not_bare o (x ∷ xs) ds n = ap (λ es. if_bare q o es ds) (spine_cons f x xs) ∙ bare_push o (spine_in f xs) ds (elim_in f x)
+
+  pub all_bare : (o : Option (List B.Part)) → parts_or q o ≡ if_bare q o [] []
+  all_bare None = refl
+  all_bare (Some ps) = refl
+
+pub made_parts : {A : Type 0} (f : ℕ → Term) (o : Option (Vec Part A)) (x : Option (List Part)) → items_of o ≡ x → parts_in f o ≡ option_map (all_in f) x
+made_parts f None x e = ap (option_map (all_in f)) e
+made_parts f (Some v) x e = ap (option_map (all_in f)) e

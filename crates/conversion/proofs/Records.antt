@@ -3,11 +3,11 @@ use Rattle.std.specs.Prelude.{◌≡◌, ◌≢◌, ℕ, zero, suc, ◌≤◌, �
 use Rattle.std.proofs.Common.{arith, ap, ap₂, sym, ◌∙◌}
 use Rattle.std.proofs.lemmas.Grind.{common_steps}
 use Rattle.std.proofs.lemmas.List.{length-map}
-use Rattle.core_rules.specs.Term.{Term}
+use Rattle.core_rules.specs.Term.{Term, Terms, Con}
 use Rattle.core_rules.specs.Signature.{ConDecl, FamDecl, Signature, Telescope, con_place, con_decl, fam_decl}
 use Rattle.core_rules.specs.Mapped.{con_map, fam_map, entry_map}
 use Rattle.core_rules.specs.Elimination.{Elim, Arg, Field}
-use Rattle.core_rules.specs.Bounded.{RecordValue, fitting, record_value}
+use Rattle.core_rules.specs.Bounded.{RecordValue, fitting, record_value, con_kind, kind}
 use Rattle.core_rules.proofs.Heads.Mapped.{con_place-map, con_decl-map, fam_decl-map}
 use Rattle.term_pool.specs.Pool.{Pool, tree}
 use Rattle.core_terms.specs.Signature.{con_total, signature_in}
@@ -46,14 +46,31 @@ fields_in p g d = sym (fields_of-map (tree p) g d)
 
 -- ---- the value that a constructor is
 
+pub test_same : (m n : ℕ) → m ≡ n → eqb m n ≡ true
+test_same m n e = grind (arith, common_steps)
+
+test_other : (m n : ℕ) → m ≢ n → eqb m n ≡ false
+test_other m n e = grind (arith, common_steps)
+
+test_suc : (m n : ℕ) → eqb m n ≡ eqb (suc m) (suc n)
+test_suc m n = grind (arith, common_steps)
+
 fits : (c : Telescope Term) (es : List Elim) → AreArgs es → fitting c es ≡ cond (eqb (length c) (length es)) (Some (args_of es)) None
-fits [] [] h = refl
-fits [] (e ∷ es) h = refl
-fits (x ∷ c) [] h = refl
+fits [] [] h = ap (λ b. cond b (Some (args_of [])) None) (sym (test_same 0 0 refl))
+fits [] (e ∷ es) h = ap (λ b. cond b (Some (args_of (e ∷ es))) None) (sym (test_other 0 (suc (length es)) (omega arith)))
+fits (x ∷ c) [] h = ap (λ b. cond b (Some (args_of [])) None) (sym (test_other (suc (length c)) 0 (omega arith)))
 fits (x ∷ c) (Field k ∷ es) h = absurd h.0
 fits (x ∷ c) (Arg b u ∷ es) h =
     ap (option_map (λ us. u ∷ us)) (fits c es h.1)
     ∙ elim (eqb (length c) (length es)) as (λ o. option_map (λ us. u ∷ us) (cond o (Some (args_of es)) None) ≡ cond o (Some (u ∷ args_of es)) None) [ true ↦ refl | false ↦ refl ]
+    ∙ ap (λ o. cond o (Some (u ∷ args_of es)) None) (test_suc (length c) (length es))
+
+no_fit : (c : Telescope Term) (es : List Elim) → (AreArgs es → ⊥) → fitting c es ≡ None
+no_fit [] [] n = absurd (n tt)
+no_fit [] (e ∷ es) n = refl
+no_fit (x ∷ c) [] n = refl
+no_fit (x ∷ c) (Field k ∷ es) n = refl
+no_fit (x ∷ c) (Arg b u ∷ es) n = ap (option_map (λ us. u ∷ us)) (no_fit c es (λ h. n (tt, h)))
 
 -- by the declarations of a constructor and its family, over trees
 abbrev by_con : (p : ℕ × ℕ) → List Elim → FamDecl Term → ConDecl Term → Option RecordValue
@@ -107,3 +124,26 @@ module _ (p : Pool) (g : Signature ℕ) (es : List Elim) (a : AreArgs es) where
       let y = fam_decl-map (tree p) g i ∙ ap (option_map (fam_map (tree p))) h in
       ap (λ b. cond b (Some (value_of es i)) None) (t ∙ ap (has_eta_with d) (sym l))
       ∙ sym (value_by k (Some (i, 0)) e ∙ ap (option_and_then (by_fam (con_decl (signature_in p g) k) es (i, 0))) y ∙ ap (λ o. by_fam o es (i, 0) (fam_map (tree p) d)) x ∙ by_cons i (fam_map (tree p) d) d.eta d.cons refl)
+
+-- ---- where eliminations are no arguments
+
+module _ (es : List Elim) (n : AreArgs es → ⊥) where
+  no_con_value : (p : ℕ × ℕ) (d : FamDecl Term) (o : Option (ConDecl Term)) → by_fam o es p d ≡ None
+  no_con_value p d None = refl
+  no_con_value p d (Some c) =
+      ap (λ x. cond (d.eta && eqb p.1 0) (option_map (λ us. record { fam = p.0; values = us }) x) None) (no_fit c.args es n)
+      ∙ elim (d.eta && eqb p.1 0) as (λ b. ◌≡◌ {A = Option RecordValue} (cond b None None) None) [ true ↦ refl | false ↦ refl ]
+
+  no_fam_value : (p : ℕ × ℕ) (o : Option (ConDecl Term)) (d : Option (FamDecl Term)) → option_and_then (by_fam o es p) d ≡ None
+  no_fam_value p o None = refl
+  no_fam_value p o (Some d) = no_con_value p d o
+
+  no_place_value : (g : Signature Term) (o : Option (ConDecl Term)) (p : Option (ℕ × ℕ)) → option_and_then (λ r. option_and_then (by_fam o es r) (fam_decl g r.0)) p ≡ None
+  no_place_value g o None = refl
+  no_place_value g o (Some p) = no_fam_value p o (fam_decl g p.0)
+
+  pub no_value : (g : Signature Term) (k : ℕ) → record_value g k es ≡ None
+  no_value g k = no_place_value g (con_decl g k) (con_place g k)
+
+pub kind_as : (g : Signature Term) (h : Term) (k : ℕ) (ps : Terms) (es : List Elim) (o : Option RecordValue) → h ≡ Con k ps → o ≡ record_value g k es → con_kind o ≡ kind g h es
+kind_as g h k ps es o e f = ap con_kind f ∙ ap (λ t. kind g t es) (sym e)

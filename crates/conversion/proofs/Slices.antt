@@ -1,6 +1,6 @@
 -- A slice by its first or its last item.
 use Rattle.std.specs.Prelude.{◌≡◌, ℕ, zero, suc, ◌+◌, ◌-◌, ◌<◌, ◌≤◌, ◌==◌, true, List, [], ◌∷◌, ◌++◌, length, get_or, take, drop, Option, Some, None, refl}
-use Rattle.std.proofs.Common.{arith, sym, ap, ap₂, ◌∙◌}
+use Rattle.std.proofs.Common.{rules, arith, sym, ap, ap₂, ◌∙◌}
 use Rattle.std.proofs.lemmas.Grind.{common_steps}
 use Rattle.std.proofs.Math.Seq.{take-length}
 use Rattle.std.proofs.lemmas.Option.{slice_get_read}
@@ -20,7 +20,7 @@ unrolled_back xs x l e =
 
 pub empty_of : {X : Type 0} (xs : List X) → (length xs == 0) ≡ true → xs ≡ []
 empty_of [] e = refl
-empty_of (x ∷ xs) e = absurd (first_of (omega (arith, e), grind (arith, common_steps)))
+empty_of (x ∷ xs) e = search rules
 
 pub none_within : {X : Type 0} (xs : List X) → length xs < 1 → xs ≡ []
 none_within [] l = refl

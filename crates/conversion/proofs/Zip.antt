@@ -1,6 +1,6 @@
 -- The arguments of two spines as parts, from the last one on.
 use Rattle.std.specs.Prelude.{◌≡◌, ◌==◌, ℕ, Bool, true, false, cond, List, [], ◌∷◌, ◌++◌, length, map, reverse, Option, Some, None, option_map, option_and_then, refl}
-use Rattle.std.proofs.Common.{ap, sym, ◌∙◌, arith}
+use Rattle.std.proofs.Common.{rules, ap, sym, ◌∙◌, arith}
 use Rattle.std.proofs.lemmas.Grind.{common_steps}
 use Rattle.std.proofs.lemmas.List.{append-nil, append_assoc, reverse-append, map-append}
 use Rattle.el_base.proofs.Lists.{reverse_push}
@@ -114,5 +114,5 @@ module _ (f : ℕ → Term) where
   zip_end ps o k = sym k
 
   pub zip_rest : (ys : List E.Elim) (ps : List Part) (o : Option (List B.Part)) → (length ys == 0) ≡ false → o ≡ onto (all_in f ps) (parts_of [] ys) → None ≡ o
-  zip_rest [] ps o n k = absurd (first_of (omega (arith, n), grind (arith, common_steps)))
+  zip_rest [] ps o n k = search rules
   zip_rest (y ∷ ys) ps o n k = zip_long y ys ps o k

@@ -52,13 +52,13 @@ pub(crate) fn argument_parts(
         let [y, others @ ..] = ys else {
             return Ok(None);
         };
-        let Some((t, u)) = terms_of(*x, *y) else {
+        let Some(terms) = terms_of(*x, *y) else {
             return Ok(None);
         };
         parts.push(Part {
             binds: None,
-            left: t,
-            right: u,
+            left: terms.0,
+            right: terms.1,
         })?;
         xs = more;
         ys = others;

@@ -49,7 +49,8 @@ pub(crate) fn head_parts(
     let head = pool.node(left.head);
     let other = pool.node(right.head);
     if is_same_head(rigid_of(&head), rigid_of(&other)) {
-        return argument_parts(alloc, left.spine.as_slice(), right.spine.as_slice());
+        let made = argument_parts(alloc, left.spine.as_slice(), right.spine.as_slice())?;
+        return Ok(made);
     }
     if !left.spine.is_empty() {
         return Ok(None);
@@ -57,7 +58,8 @@ pub(crate) fn head_parts(
     if !right.spine.is_empty() {
         return Ok(None);
     }
-    bare_parts(alloc, bare_of(&head), bare_of(&other))
+    let made = bare_parts(alloc, bare_of(&head), bare_of(&other))?;
+    Ok(made)
 }
 
 /// The variable, function, type former or constructor that a head is.

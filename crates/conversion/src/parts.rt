@@ -39,18 +39,26 @@ pub(crate) fn parts_of(
 {
     match as_lambda(pool, left) {
         Some(l) => match as_lambda(pool, right) {
-            Some(k) => bodies(alloc, l, k),
+            Some(k) => {
+                let made = bodies(alloc, l, k)?;
+                Ok(made)
+            }
             None => {
                 let other = applied_to_new(alloc, pool, l.flag, right)?;
-                one(alloc, l.name, l.body, other)
+                let made = one(alloc, l.name, l.body, other)?;
+                Ok(made)
             }
         },
         None => match as_lambda(pool, right) {
             Some(k) => {
                 let other = applied_to_new(alloc, pool, k.flag, left)?;
-                one(alloc, k.name, other, k.body)
+                let made = one(alloc, k.name, other, k.body)?;
+                Ok(made)
             }
-            None => kind_parts(alloc, pool, sig, left, right),
+            None => {
+                let made = kind_parts(alloc, pool, sig, left, right)?;
+                Ok(made)
+            }
         },
     }
 }
@@ -123,9 +131,18 @@ fn kind_parts(
     let first = kind_of(pool, sig, left);
     let second = kind_of(pool, sig, right);
     match eta_of(first, second) {
-        Eta::Left(fam) => left_parts(alloc, pool, sig, fam, left, right),
-        Eta::Right(fam) => right_parts(alloc, pool, sig, fam, left, right),
-        Eta::None => field_parts(alloc, pool, left, right),
+        Eta::Left(fam) => {
+            let made = left_parts(alloc, pool, sig, fam, left, right)?;
+            Ok(made)
+        }
+        Eta::Right(fam) => {
+            let made = right_parts(alloc, pool, sig, fam, left, right)?;
+            Ok(made)
+        }
+        Eta::None => {
+            let made = field_parts(alloc, pool, left, right)?;
+            Ok(made)
+        }
     }
 }
 
@@ -150,7 +167,8 @@ fn left_parts(
     let Some(fields) = found else {
         return Ok(None);
     };
-    argument_parts(alloc, left.spine.as_slice(), fields.as_slice())
+    let made = argument_parts(alloc, left.spine.as_slice(), fields.as_slice())?;
+    Ok(made)
 }
 
 /// The projections of the left side with the fields of the right one.
@@ -175,7 +193,8 @@ fn right_parts(
     let Some(fields) = found else {
         return Ok(None);
     };
-    argument_parts(alloc, fields.as_slice(), right.spine.as_slice())
+    let made = argument_parts(alloc, fields.as_slice(), right.spine.as_slice())?;
+    Ok(made)
 }
 
 /// The projections of `form` to the fields of a record, with the flags of `value`, where it has as many
@@ -195,7 +214,8 @@ fn fields_like(
     ensures below { IfOk result (λ o. IfSome o (λ xs. AllBelow (length pool.new.trees) xs.items)) }
 {
     let of = applied(pool, form)?;
-    projected(alloc, pool, fields_of(sig, fam), of, value.spine.as_slice())
+    let found = projected(alloc, pool, fields_of(sig, fam), of, value.spine.as_slice())?;
+    Ok(found)
 }
 
 /// The fields of a record, in order.
@@ -224,12 +244,18 @@ fn field_parts(
 {
     match last_field(left.spine.as_slice()) {
         Some(c) => match last_field(right.spine.as_slice()) {
-            Some(d) => projection_parts(alloc, pool, left.head, &c, right.head, &d),
+            Some(d) => {
+                let made = projection_parts(alloc, pool, left.head, &c, right.head, &d)?;
+                Ok(made)
+            }
             None => Ok(None),
         },
         None => match last_field(right.spine.as_slice()) {
             Some(_) => Ok(None),
-            None => head_parts(alloc, pool, left, right),
+            None => {
+                let made = head_parts(alloc, pool, left, right)?;
+                Ok(made)
+            }
         },
     }
 }
@@ -258,7 +284,8 @@ fn projection_parts(
     let first = applied_to(alloc, pool, left, cut.before)?;
     let second = applied_to(alloc, pool, right, other.before)?;
     let rest = argument_parts(alloc, cut.after, other.after)?;
-    with_first(rest, first, second)
+    let made = with_first(rest, first, second)?;
+    Ok(made)
 }
 
 /// Two terms before other parts.

@@ -40,7 +40,7 @@ loop-xs-preserved c =
     let e = unrolled xs x c.in-len1-up.len_at_least c.x-item.is in
     let n = unrolled ys y c.in-len1-up-ys.len_at_least c.y-item.is in
     let ps = c.loop-xs.parts.items in
-    let part : Part = record { binds = None; left = c.in-Some.t; right = c.in-Some.u } in
+    let part : Part = record { binds = None; left = c.in-Some.terms.0; right = c.in-Some.terms.1 } in
     record {
       is = λ f.
           let a : _ = λ i. onto (all_in f ps) (argument_parts (spine_in f (e i)) (spine_in f (n i))) in
