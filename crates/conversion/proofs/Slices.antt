@@ -25,3 +25,7 @@ empty_of (x ∷ xs) e = search rules
 pub none_within : {X : Type 0} (xs : List X) → length xs < 1 → xs ≡ []
 none_within [] l = refl
 none_within (x ∷ xs) l = absurd (omega (arith, l))
+
+pub none_of : {X : Type 0} (o : Option X) → ((x : X) → o ≡ Some x → ⊥) → o ≡ None
+none_of None h = refl
+none_of (Some x) h = absurd (h x refl)

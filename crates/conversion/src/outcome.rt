@@ -52,7 +52,8 @@ pub(crate) fn compare_heads<S: Solutions>(
 {
     let left = reduce(alloc, pool, sig, sol, t, fuel)?;
     let right = reduce(alloc, pool, sig, sol, u, fuel)?;
-    decided(alloc, pool, sig, &left, &right)
+    let found = decided(alloc, pool, sig, &left, &right)?;
+    Ok(found)
 }
 
 fn decided(

@@ -11,7 +11,7 @@ use Rattle.conversion.proofs.heads.head_parts.Goals as goal
 pub returns-then-is_same_head-clause-below : goal.returns-then-is_same_head-clause-below
 returns-then-is_same_head-clause-below c =
     let n = length c.args.pool.now.trees in
-    c.in_ok-made.ensures.below n (subst (AllBelow n) (sym c.as_slice.ensures) c.requires.left.1) (subst (AllBelow n) (sym c.as_slice-2.ensures) c.requires.right.1)
+    c.in_ok-made.ensures.below n (subst (AllBelow n) (sym c.as_slice.ensures) c.requires.left.1) (subst (AllBelow n) (sym c.as_slice-then-is_same_head.ensures) c.requires.right.1)
 
 pub returns-then-not-is_empty-clause-is : goal.returns-then-not-is_empty-clause-is
 returns-then-not-is_empty-clause-is c = λ q.
