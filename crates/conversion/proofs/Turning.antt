@@ -1,5 +1,5 @@
 -- What the head forms ask for, seen from the pool before.
-use Rattle.std.specs.Prelude.{◌≡◌, ℕ, ◌<◌, List, [], ◌∷◌, length, reverse, Option, None}
+use Rattle.std.specs.Prelude.{◌≡◌, ℕ, ◌<◌, List, [], ◌∷◌, ◌++◌, length, map, reverse, Option, None}
 use Rattle.std.proofs.Common.{sym, ap, ◌∙◌, subst, subst₂, arith, inl, inr}
 use Rattle.el_base.proofs.Throughout.{all-reverse}
 use Rattle.core_rules.specs.Term.{Term}
@@ -18,7 +18,10 @@ use Rattle.core_rules.specs.Bounded as B
 use Rattle.core_rules.specs.Bounded.{ConvOf, below}
 use Rattle.conversion.specs.declared.pending.Work.{Work}
 use Rattle.conversion.specs.Table.{Depths, yes_at}
-use Rattle.conversion.specs.Pending.{Going, InTurn, Item}
+use Rattle.std.proofs.lemmas.List.{reverse-append}
+use Rattle.el_base.proofs.Lists.{map-reverse}
+use Rattle.conversion.specs.declared.arguments.Part.{Part}
+use Rattle.conversion.specs.Pending.{Going, InTurn, Item, work_of}
 use Rattle.conversion.proofs.Verdicts.{below_none}
 use Rattle.conversion.proofs.Moves.{HaveParts}
 
@@ -54,3 +57,7 @@ module _ (g : Signature Term) (s : Solutions) (fuel : ℕ) where
   pub only_leads : (i : Item) (v : B.Verdict) → i.path ≡ [] → InTurn g s fuel (i ∷ []) v → ConvOf g s fuel i.depth i.left i.right v
   only_leads i v e (inl h) = subst (ConvOf g s fuel i.depth i.left i.right) (sym h.1) h.0
   only_leads i v e (inr h) = subst (ConvOf g s fuel i.depth i.left i.right) (sym (h.3 ∙ ap (λ xs. below xs h.0) e ∙ below_none h.0)) h.1
+
+-- the parts before the pairs that waited, the first one first
+pub opened : (ws vs : List Work) (n d : ℕ) (ps : List Part) → vs ≡ ws ++ map (work_of n d) ps → map (work_of n d) (reverse ps) ++ reverse ws ≡ reverse vs
+opened ws vs n d ps e = sym (ap reverse e ∙ reverse-append ws (map (work_of n d) ps) ∙ ap (λ l. l ++ reverse ws) (sym (map-reverse (work_of n d) ps)))
