@@ -113,7 +113,10 @@ pub(crate) fn projected(
             return Ok(None);
         };
         let arg = pool.add(Node::Proj { field: *field, of })?;
-        made.push(Elim::Arg { flag: flag_of(*x), arg })?;
+        made.push(Elim::Arg {
+            flag: flag_of(*x),
+            arg,
+        })?;
         xs = more;
         left = others;
     }

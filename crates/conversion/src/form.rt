@@ -52,7 +52,10 @@ pub(crate) fn as_lambda(pool: &TermPool, term: &Applied) -> Option<Lambda>
     }
     match pool.node(term.head) {
         Node::Lam {
-            flag, name, body, ..
+            flag,
+            name,
+            body,
+            ..
         } => Some(Lambda { flag, name, body }),
         _ => None,
     }
