@@ -1,0 +1,10 @@
+pub mod Conv
+pub mod Part
+pub mod Spine
+pub mod Form
+pub mod Arguments
+pub mod Heads
+pub mod Forms
+pub mod Outcome
+pub mod Table
+pub mod Pending
