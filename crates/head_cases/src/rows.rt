@@ -3,7 +3,7 @@ use crate::fault::Fault;
 use crate::metas::{Metas, Solved};
 use crate::words::term;
 use crate::world::World;
-use core_terms::{TermId, TermPool};
+use core_terms::{Limits, TermId, TermPool};
 use std::alloc::Global;
 
 /// What a row asks for.
@@ -12,12 +12,14 @@ enum Kind {
     Head,
     HeadWithSolutions,
     Number,
+    Verdict,
+    VerdictWithSolutions,
 }
 
 #[derive(Clone, Copy)]
 struct Row<'a> {
     kind: Kind,
-    fuel: u32,
+    limits: Limits,
     what: &'a str,
     term: &'a str,
     wanted: &'a str,
@@ -37,8 +39,22 @@ fn read_kind(word: &str) -> Result<Kind, Fault> {
         "head" => Ok(Kind::Head),
         "solved" => Ok(Kind::HeadWithSolutions),
         "read" => Ok(Kind::Number),
+        "conv" => Ok(Kind::Verdict),
+        "conv-solved" => Ok(Kind::VerdictWithSolutions),
         _ => Err(Fault::NoRow),
     }
+}
+
+/// Fuel, or fuel and depth.
+fn read_limits(words: &str) -> Result<Limits, Fault> {
+    let (fuel, depth) = words.split_once(',').unwrap_or((words, "0"));
+    let fuel = fuel.parse::<u32>().map_err(|_| Fault::NoRow)?;
+    let depth = depth.parse::<u32>().map_err(|_| Fault::NoRow)?;
+    Ok(Limits {
+        fuel,
+        depth,
+        order: 0,
+    })
 }
 
 fn read_row(line: &str) -> Result<Row<'_>, Fault> {
@@ -47,10 +63,10 @@ fn read_row(line: &str) -> Result<Row<'_>, Fault> {
     let (what, rest) = rest.split_once('|').ok_or(Fault::NoRow)?;
     let (term, wanted) = rest.split_once('|').unwrap_or((rest, rest));
     let kind = read_kind(kind)?;
-    let fuel = fuel.parse::<u32>().map_err(|_| Fault::NoRow)?;
+    let limits = read_limits(fuel)?;
     Ok(Row {
         kind,
-        fuel,
+        limits,
         what,
         term,
         wanted,
@@ -58,12 +74,14 @@ fn read_row(line: &str) -> Result<Row<'_>, Fault> {
 }
 
 fn metas_of(alloc: Global, pool: &mut TermPool, kind: Kind) -> Result<Metas, Fault> {
-    if let Kind::HeadWithSolutions = kind {
-        let first = term(alloc, pool, "2 \\")?;
-        let second = term(alloc, pool, "0 1 ?0")?;
-        return Ok(Metas::Solved(Solved { first, second }));
+    match kind {
+        Kind::HeadWithSolutions | Kind::VerdictWithSolutions => {
+            let first = term(alloc, pool, "2 \\")?;
+            let second = term(alloc, pool, "0 1 ?0")?;
+            Ok(Metas::Solved(Solved { first, second }))
+        }
+        Kind::Head | Kind::Number | Kind::Verdict => Ok(Metas::Unsolved),
     }
-    Ok(Metas::Unsolved)
 }
 
 fn ask(alloc: Global, pool: &mut TermPool, row: &Row) -> Result<Asked, Fault> {
@@ -81,8 +99,13 @@ pub fn show_row(rt: &HostRuntime, line: &str) -> Result<(), Fault> {
     let mut pool = TermPool::new(rt.alloc())?;
     let asked = ask(rt.alloc(), &mut pool, &row)?;
     let mut world = World::over(rt.alloc(), pool, asked.bodies, asked.metas)?;
-    if let Kind::Number = row.kind {
-        return world.show_number(rt, row.what, asked.term, row.fuel);
+    match row.kind {
+        Kind::Number => world.show_number(rt, row.what, asked.term, row.limits.fuel),
+        Kind::Head | Kind::HeadWithSolutions => {
+            world.show_head(rt, row.what, asked.term, asked.wanted, row.limits.fuel)
+        }
+        Kind::Verdict | Kind::VerdictWithSolutions => {
+            world.show_verdict(rt, row.what, asked.term, asked.wanted, row.limits)
+        }
     }
-    world.show_head(rt, row.what, asked.term, asked.wanted, row.fuel)
 }

@@ -113,3 +113,12 @@ pub fn repeat(pool: &mut TermPool, fun: TermId, arg: TermId, times: u32) -> Resu
     }
     Ok(t)
 }
+
+/// The term at itself, and so on, so often.
+pub fn double(pool: &mut TermPool, t: TermId, times: u32) -> Result<TermId, Fault> {
+    let mut t = t;
+    for _ in 0..times {
+        t = apply(pool, Flag::Explicit, t, t)?;
+    }
+    Ok(t)
+}

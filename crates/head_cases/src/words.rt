@@ -1,6 +1,6 @@
 use crate::fault::Fault;
 use crate::terms::{
-    apply, constructor, definition, family, lambda, metavariable, pi, project, repeat, set,
+    apply, constructor, definition, double, family, lambda, metavariable, pi, project, repeat, set,
     variable,
 };
 use core_rules::Flag;
@@ -69,6 +69,9 @@ fn take_number(pool: &mut TermPool, stack: &mut Stack, word: &str) -> Result<Ter
     if let Some(times) = word.strip_prefix('^') {
         let (fun, arg) = stack.pop_two()?;
         return repeat(pool, fun, arg, read_number(times)?);
+    }
+    if let Some(times) = word.strip_prefix('%') {
+        return double(pool, stack.pop()?, read_number(times)?);
     }
     match word.parse::<u32>() {
         Ok(index) => variable(pool, index),

@@ -5,7 +5,8 @@ use crate::declared::{Bodies, declared};
 use crate::fault::Fault;
 use crate::metas::{Metas, Solved, is_chain};
 use crate::terms::is_in;
-use core_terms::{NoSolutions, Node, Signature, TermId, TermPool};
+use conversion::{Conv, convert};
+use core_terms::{Limits, NoSolutions, Node, Signature, TermId, TermPool};
 use std::alloc::Global;
 use std::io;
 use weak_head::{Head, head};
@@ -73,6 +74,44 @@ impl World {
         Ok(())
     }
 
+    /// Prints the verdict on the two terms.
+    pub fn show_verdict(
+        &mut self,
+        rt: &HostRuntime,
+        what: &str,
+        t: TermId,
+        u: TermId,
+        limits: Limits,
+    ) -> Result<(), Fault>
+        requires { Stands self.old.pool self.old.sig }
+    {
+        let verdict = self.compare(t, u, limits)?;
+        print!(rt; "{what}: ")?;
+        print_verdict(rt, &verdict)?;
+        println!(rt; "")?;
+        Ok(())
+    }
+
+    fn compare(&mut self, t: TermId, u: TermId, limits: Limits) -> Result<Conv, Fault>
+        requires { Stands self.old.pool self.old.sig }
+    {
+        if !is_in(&self.pool, t) {
+            return Err(Fault::Stray);
+        }
+        if !is_in(&self.pool, u) {
+            return Err(Fault::Stray);
+        }
+        match self.metas {
+            Metas::Unsolved => {
+                let verdict = unsolved_verdict(self.alloc, &mut self.pool, &self.sig, t, u, limits);
+                Ok(verdict)
+            }
+            Metas::Solved(solved) => {
+                solved_verdict(self.alloc, &mut self.pool, &self.sig, &solved, t, u, limits)
+            }
+        }
+    }
+
     fn read(&mut self, t: TermId, fuel: u32) -> Result<(u32, u32), Fault>
         requires { Stands self.old.pool self.old.sig }
     {
@@ -134,6 +173,42 @@ fn solved_head(
     Ok(head(alloc, pool, sig, solved, t, fuel))
 }
 
+#[tactic(auto, using(crate::proofs::Chains::stands))]
+fn unsolved_verdict(
+    alloc: Global,
+    pool: &mut TermPool,
+    sig: &Signature,
+    t: TermId,
+    u: TermId,
+    limits: Limits,
+) -> Conv
+    requires t { t < length pool.old.trees }
+    requires u { u < length pool.old.trees }
+    requires stands { Stands pool.old sig.now }
+{
+    convert(alloc, pool, sig, &NoSolutions, t, u, limits)
+}
+
+#[tactic(auto, using(crate::proofs::Chains::stands))]
+fn solved_verdict(
+    alloc: Global,
+    pool: &mut TermPool,
+    sig: &Signature,
+    solved: &Solved,
+    t: TermId,
+    u: TermId,
+    limits: Limits,
+) -> Result<Conv, Fault>
+    requires t { t < length pool.old.trees }
+    requires u { u < length pool.old.trees }
+    requires stands { Stands pool.old sig.now }
+{
+    if !is_chain(pool, solved) {
+        return Err(Fault::Stray);
+    }
+    Ok(convert(alloc, pool, sig, solved, t, u, limits))
+}
+
 /// The argument of suc that the term is.
 fn before(pool: &TermPool, t: TermId, suc: TermId) -> Result<TermId, Fault> {
     if !is_in(pool, t) {
@@ -160,5 +235,16 @@ fn print_head(rt: &HostRuntime, seen: Head, wanted: TermId) -> io::Result<()> {
         }
         Head::OutOfFuel => print!(rt; "out of fuel"),
         Head::NoMemory => print!(rt; "out of memory"),
+    }
+}
+
+fn print_verdict(rt: &HostRuntime, verdict: &Conv) -> io::Result<()> {
+    match verdict {
+        Conv::Yes => print!(rt; "yes"),
+        Conv::No { under, .. } => print!(rt; "no, under {} binders", under.len()),
+        Conv::OutOfFuel => print!(rt; "out of fuel"),
+        Conv::OutOfDepth => print!(rt; "out of depth"),
+        Conv::Blocked { meta } => print!(rt; "blocked by {}", meta.number()),
+        Conv::NoMemory => print!(rt; "out of memory"),
     }
 }
