@@ -26,3 +26,4 @@ pub mod Weight
 pub mod Ends
 pub mod Needed
 pub mod Counted
+pub mod Looping

@@ -43,9 +43,13 @@ projections g d t = map (λ f. Proj f t) (fields_of g d)
 abbrev pub fam_type : FamDecl Term → Term
 fam_type d = pi_over d.params (pi_over d.indices (Sort d.level))
 
--- the type of a constructor of family number d under the parameters: it ends in the family at its parameters and then the indices
+-- the type in which a constructor of family number d ends: the family at its own parameters and then the constructor's indices
+abbrev pub con_end : ℕ → FamDecl Term → ConDecl Term → Term
+con_end d decl c = elims (Fam d) (args decl.params (vars_from (length c.args) (length decl.params)) ++ args decl.indices c.indices)
+
+-- the type of a constructor of family number d under the parameters
 abbrev pub con_type : ℕ → FamDecl Term → ConDecl Term → Term
-con_type d decl c = pi_over c.args (elims (Fam d) (args decl.params (vars_from (length c.args) (length decl.params)) ++ args decl.indices c.indices))
+con_type d decl c = pi_over c.args (con_end d decl c)
 
 -- the changes of `over` on eliminations
 abbrev pub elim_over : (ℕ → ℕ → Term) → ℕ → Elim → Elim

@@ -10,6 +10,7 @@ pub mod Run
 pub mod Conversion
 pub mod Typing
 pub mod Unification
+pub mod UnifierAnswers
 pub mod TypedTree
 pub mod Derivable
 pub mod Inversion
@@ -20,6 +21,7 @@ pub mod Bounded
 pub mod Steps
 pub mod BoundedLaws
 pub mod Addition
+pub mod Looping
 pub mod TreeLaws
 pub mod VectorHead
 pub mod ScopeLaws

@@ -14,7 +14,7 @@ use Rattle.core_rules.specs.Heads as H
 use Rattle.core_rules.specs.Heads.{Form, Within}
 use Rattle.core_rules.specs.Bounded.{Yes}
 use Rattle.core_rules.specs.Unification as U
-use Rattle.core_rules.specs.Unification.{Equation, Joins}
+use Rattle.core_rules.specs.Unification.{Equation, Solution, Joins}
 use Rattle.core_rules.specs.TypedTree.{vars, Splitting}
 use Rattle.core_rules.specs.Examples.{nat, suc_con, zero_con}
 use Rattle.core_rules.specs.Addition.{nat_type, plus_tree, plus_term, suc_term, at_zero, at_suc}
@@ -26,16 +26,15 @@ use Rattle.kernel_rules.specs.TermReading.{ShowsForm, ShowsSort, ShowsFunction, 
 use Rattle.core_rules.specs.Examples.{data_type}
 use Rattle.core_rules.specs.Signature.{FamDecl}
 use Rattle.kernel_rules.specs.Refusals.{TooBig, BadTree}
-use Rattle.kernel_rules.specs.Unifier.{Unified, UnifiedBy, NeverUnified, IsUnified}
+use Rattle.core_rules.specs.UnifierAnswers.{Unified, UnifiedBy, NeverUnified, IsUnified, answers}
 use Rattle.kernel_rules.specs.FamilyReading.{ConOf}
 use Rattle.kernel_rules.specs.TreeReading.{FamilyAt, same, ShowsSplit, BranchOf, TreeOf, split_at}
-use Rattle.kernel_rules.specs.DeclLaws.{answers}
 use Rattle.kernel_rules.specs.Examples.{plain, PlainUnifies, NatAccepted, AdditionAccepted, box_con, BoxTooBig, AbsurdRefused}
 
 -- ---- it unifies
 
 abbrev unified_branch : Branch Term → Unified → Branch Term
-unified_branch b (UnifiedBy c) = c
+unified_branch b (UnifiedBy ss c) = c
 unified_branch b v = b
 
 vars_at : (n j k : ℕ) → slice_get (numbers 0 n) j ≡ Some k → slice_get (vars 0 n) k ≡ Some (Var j)
@@ -60,19 +59,21 @@ plain_joins c =
       kept = λ j k e. vars_at (length c) j k e;
     }
 
-unified_one : {b c : Branch Term} → UnifiedBy b ≡ UnifiedBy c → b ≡ c
-unified_one e = cc e
+unified_one : {ss ds : List Solution} {b c : Branch Term} → UnifiedBy ss b ≡ UnifiedBy ds c → (ss ≡ ds) × (b ≡ c)
+unified_one e = (cc e, cc e)
 
-plain_unified : (g : Signature Term) (c : Context Term) (es : List Equation) (b : Branch Term) → UnifiedBy b ≡ plain c es → IsUnified g c es b
-plain_unified g c [] b e = transport (IsUnified g c []) (sym (unified_one e)) (record { solutions = []; solves = record { types = _; steps = U.stop }; joins = plain_joins c })
-plain_unified g c (q ∷ es) b e = absurd cc
+plain_unified : (g : Signature Term) (c : Context Term) (es : List Equation) (ss : List Solution) (b : Branch Term) → UnifiedBy ss b ≡ plain c es → IsUnified g c es ss b
+plain_unified g c [] ss b e =
+    let h = unified_one e in
+    transport (λ ss. IsUnified g c [] ss b) (sym h.0) (transport (IsUnified g c [] []) (sym h.1) (record { solves = record { types = _; steps = U.stop }; joins = plain_joins c }))
+plain_unified g c (q ∷ es) ss b e = absurd cc
 
 plain_never : (c : Context Term) (es : List Equation) → NeverUnified ≡ plain c es → ⊥
 plain_never c [] e = cc e
 plain_never c (q ∷ es) e = cc e
 
 pub plain_unifies : PlainUnifies
-plain_unifies = λ g k. record { unified = λ c es b e. plain_unified g c es b e; never = λ c es e. absurd (plain_never c es e) }
+plain_unifies = λ g k. record { unified = λ c es ss b e. plain_unified g c es ss b e; never = λ c es e. absurd (plain_never c es e) }
 
 -- ---- what it reads
 
@@ -148,14 +149,14 @@ plus_split = split_at under_both 1 nat_at nat_type (plus_term (Var 1) (Var 0))
 
 zero_branch : BranchOf known 0 1 (answers plain) plus_split 0 zero_con at_zero (Gives tt)
 zero_branch =
-    goes_on (record { context = entry Explicit 0 nat_type ∷ []; values = Var 0 ∷ []; keep = 0 ∷ [] }) (UnifiedBy (record { context = entry Explicit 0 nat_type ∷ []; values = Var 0 ∷ []; keep = 0 ∷ [] }), refl, refl)
+    goes_on (record { context = entry Explicit 0 nat_type ∷ []; values = Var 0 ∷ []; keep = 0 ∷ [] }) (UnifiedBy [] (record { context = entry Explicit 0 nat_type ∷ []; values = Var 0 ∷ []; keep = 0 ∷ [] }), refl, refl)
     (goes_on tt (same (record { context = (refl, refl, tt); values = (refl, tt); keep = refl }) refl)
     (goes_on (0 ∷ []) (goes_on 0 (is_type known refl []) (goes_on [] refl refl)) (goes_on tt refl (goes_on tt (var_checked known refl (entry Explicit 0 nat_type ∷ []) 0 0 refl) refl))))
 
 suc_branch : BranchOf known 0 1 (answers plain) plus_split 1 suc_con at_suc (Gives tt)
 suc_branch =
     let b : Branch Term = record { context = entry Explicit 3 nat_type ∷ entry Explicit 0 nat_type ∷ []; values = Var 0 ∷ Var 1 ∷ []; keep = 0 ∷ 1 ∷ [] } in
-    goes_on b (UnifiedBy b, refl, refl)
+    goes_on b (UnifiedBy [] b, refl, refl)
     (goes_on tt (same (record { context = (refl, refl, (refl, refl, tt)); values = (refl, (refl, tt)); keep = refl }) refl)
     (goes_on (0 ∷ 0 ∷ []) (goes_on 0 (is_type known refl []) (goes_on (0 ∷ []) (goes_on 0 (is_type known refl (entry Explicit 0 nat_type ∷ [])) (goes_on [] refl refl)) refl))
     (goes_on tt (goes_on tt refl (goes_on tt (var_checked known refl under_both 1 0 refl) refl)) (goes_on tt (var_checked known refl under_both 0 0 refl) refl))))
@@ -197,4 +198,4 @@ absurd_refused =
     (goes_on (record { flag = Explicit; name = 0; dom = nat_type; cod = nat_type }) refl
     (goes_on nat_at
     (goes_on nat_at (goes_on (entry Explicit 0 nat_type) refl (goes_on (nat_type, []) (Within (Form nat_type []) 0, (H.form tt, omega arith), refl) refl)) (goes_on tt refl refl))
-    (stops BadTree (UnifiedBy (record { context = []; values = []; keep = [] }), refl, refl) refl))))
+    (stops BadTree (UnifiedBy [] (record { context = []; values = []; keep = [] }), refl, refl) refl))))

@@ -8,7 +8,7 @@ use Rattle.std.proofs.lemmas.Bool.{eqb-true}
 use Rattle.core_rules.specs.Term.{Term, Var, App, Def, Fam, Proj}
 use Rattle.core_rules.specs.Substitution.{shift, under}
 use Rattle.core_rules.specs.Signature.{Telescope, Context, onto, Branch, Tree, Leaf, Intro, Cosplit, Split, RecordSplit, Absurd, CoBranches, NoField, OnField, ConBranches, NoCon, Refuted, Goes, ConDecl, FamDecl, Decl, Postulate, Family, Open, Function, Signature, defs, fams, fam_decl, without_cons, cons_of, fields_of}
-use Rattle.core_rules.specs.Elimination.{Elim, Arg, Field, elims, args, vars_from}
+use Rattle.core_rules.specs.Elimination.{Elim, Arg, Field, elims, args, vars_from, con_end}
 use Rattle.core_rules.specs.Typing.{entry}
 use Rattle.core_rules.specs.Unification.{Equation}
 use Rattle.core_rules.specs.TypedTree.{Splitting, con_context, with_con, index_equations}
@@ -19,8 +19,8 @@ use Rattle.core_rules.proofs.Trees.Scoped.{length-con_context}
 use Rattle.kernel_rules.specs.Outcome.{Outcome, Gives, Refuses}
 use Rattle.kernel_rules.specs.TermReading.{spine_shown, form_shown}
 use Rattle.kernel_rules.specs.Refusals.{DeclRefusal, ConShape, TooBig, BadTree, Demands}
-use Rattle.kernel_rules.specs.FamilyReading.{none_above, con_end, LevelsOf, ConOf, ConsOf, FamilyOf}
-use Rattle.kernel_rules.specs.Unifier.{Unified}
+use Rattle.kernel_rules.specs.FamilyReading.{none_above, LevelsOf, ConOf, ConsOf, FamilyOf}
+use Rattle.core_rules.specs.UnifierAnswers.{Unified, Unifier}
 use Rattle.kernel_rules.specs.TreeReading.{FamilyAt, pi_shown, family_shown, record_shown, entry_shown, can_split, first_con, split_at, branch_by, refuted_by, IsSameBranch, IsItsBranch, same, other, ShowsFamily, ShowsSplit, ValuesOf, Unifies, AllRefutedOf, BranchOf, TreeOf, FieldsOf, BranchesOf}
 use Rattle.kernel_rules.specs.DeclReading.{DeclOf}
 use Rattle.kernel_rules.proofs.Outcome.{then-gives}
@@ -29,7 +29,7 @@ use Rattle.kernel_rules.proofs.Shown.{family-is}
 use Rattle.kernel_rules.proofs.SameBranch.{branch_or}
 use Rattle.kernel_rules.proofs.TermOutcome.{HasOutcome, then-outcome, seen-outcome, is_type-outcome, checked-outcome}
 
-abbrev pub AnswersAll : (Context Term → List Equation → Unified → Type 0) → Type 0
+abbrev pub AnswersAll : Unifier → Type 0
 AnswersAll U = (c : Context Term) (es : List Equation) → (v : Unified) × U c es v
 
 demand-outcome : (w : Bool) (e : DeclRefusal) → HasOutcome (Demands w e)
@@ -104,7 +104,7 @@ module _ (g : Signature Term) (fuel depth : ℕ) where
   values-outcome c' n (t ∷ ts) [] m h = (Refuses BadTree, refl)
   values-outcome c' n (t ∷ ts) (e ∷ es) m h = then-outcome (values-outcome c' n ts es m h.1) (λ o _. then-outcome (checked-outcome g fuel depth c' n t (under ts e.ty) m h.0) (λ o _. (Gives tt, refl)))
 
-  module _ (U : Context Term → List Equation → Unified → Type 0) (answer : AnswersAll U) where
+  module _ (U : Unifier) (answer : AnswersAll U) where
     unifies-outcome : {A : Type 0} (f : Unified → Outcome DeclRefusal A) (c : Context Term) (es : List Equation) → HasOutcome (Unifies g fuel depth U f c es)
     unifies-outcome f c es = let v = answer c es in (f v.0, (v.0, v.1, refl))
 
@@ -184,7 +184,7 @@ family-outcome g fuel depth d s =
     then-outcome (levels-outcome g fuel depth [] 0 d.params refl s.params) (λ ns _. then-outcome (levels-outcome g fuel depth (onto d.params []) (length d.params) d.indices p s.indices)
     (λ ms _. cons-outcome known fuel depth (length (fams g)) d d.cons (omega (arith, n)) s.cons))
 
-pub decl-outcome : (U : Signature Term → Context Term → List Equation → Unified → Type 0) → ((h : Signature Term) → AnswersAll (U h)) → (g : Signature Term) (fuel depth : ℕ) (d : Decl Term) → DeclInScope g any_meta d → HasOutcome (DeclOf U g fuel depth d)
+pub decl-outcome : (U : Signature Term → Unifier) → ((h : Signature Term) → AnswersAll (U h)) → (g : Signature Term) (fuel depth : ℕ) (d : Decl Term) → DeclInScope g any_meta d → HasOutcome (DeclOf U g fuel depth d)
 decl-outcome U answer g fuel depth (Postulate x a) s = then-outcome (is_type-outcome g fuel depth [] 0 a refl s) (λ n _. (Gives tt, refl))
 decl-outcome U answer g fuel depth (Family d) s = family-outcome g fuel depth d s
 decl-outcome U answer g fuel depth (Open x a) s = (Refuses BadTree, refl)

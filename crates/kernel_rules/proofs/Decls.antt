@@ -1,9 +1,8 @@
 -- A declaration that is accepted over a derivable signature is good, and the signature with it is derivable.
-use Rattle.std.specs.Prelude.{◌≡◌, refl, zero, suc, take, slice_get, Some, ℕ, List, [], ◌∷◌, ◌++◌, length}
+use Rattle.std.specs.Prelude.{◌≡◌, refl, zero, suc, take, slice_get, Some, ℕ, [], ◌∷◌, ◌++◌, length}
 use Rattle.core_rules.specs.Term.{Term, Sort, Def}
-use Rattle.core_rules.specs.Signature.{Context, Decl, Postulate, Family, Open, Function, Signature, defs}
+use Rattle.core_rules.specs.Signature.{Decl, Postulate, Family, Open, Function, Signature, defs}
 use Rattle.core_rules.specs.Typing.{Typing}
-use Rattle.core_rules.specs.Unification.{Equation}
 use Rattle.core_rules.specs.Derivable as D
 use Rattle.core_rules.specs.Derivable.{Good, Derivable}
 use Rattle.core_rules.proofs.Signature.Growth.{derivable-extended}
@@ -11,7 +10,7 @@ use Rattle.core_rules.proofs.Derivations.{derivable-empty}
 use Rattle.core_rules.proofs.Typing.Scoped.{typing-in_scope}
 use Rattle.kernel_rules.specs.Outcome.{Gives}
 use Rattle.core_rules.specs.TreeLaws.{IsSound}
-use Rattle.kernel_rules.specs.Unifier.{Unified}
+use Rattle.core_rules.specs.UnifierAnswers.{Unifier}
 use Rattle.kernel_rules.specs.DeclReading.{DeclOf}
 use Rattle.kernel_rules.specs.DeclLaws.{IsHandedIn, Unifiers, AllAccepted}
 use Rattle.kernel_rules.proofs.Outcome.{then-gives}
@@ -21,7 +20,7 @@ use Rattle.core_rules.proofs.Trees.Sound.{derivable-sound, opened-sound}
 use Rattle.kernel_rules.proofs.Families.{type_typed, family-good}
 use Rattle.kernel_rules.proofs.Trees.{tree-typed}
 
-module _ (U : Signature Term → Context Term → List Equation → Unified → Type 0) (g : Signature Term) (fuel depth : ℕ) (u : Unifiers U) (r : Derivable g) where
+module _ (U : Signature Term → Unifier) (g : Signature Term) (fuel depth : ℕ) (u : Unifiers U) (r : Derivable g) where
   pub decl-good : (d : Decl Term) → IsHandedIn g d → DeclOf U g fuel depth d (Gives tt) → Good g d
   decl-good (Postulate x a) s h = let h1 = then-gives h in D.postulate (record { level = h1.0; holds = type_typed g fuel depth (derivable-sound g r) [] a h1.0 h1.1 })
   decl-good (Family d) s h = D.family (family-good g fuel depth d r s h)
@@ -50,7 +49,7 @@ next_taken P [] (suc n) h k = h
 next_taken P (d ∷ g) zero h k = k d refl
 next_taken P (d ∷ g) (suc n) h k = next_taken (λ g. P (d ∷ g)) g n h k
 
-pub all-derivable : (U : Signature Term → Context Term → List Equation → Unified → Type 0) (fuel depth : ℕ) → Unifiers U → (g : Signature Term) → AllAccepted U fuel depth g → (n : ℕ) → Derivable (take n g)
+pub all-derivable : (U : Signature Term → Unifier) (fuel depth : ℕ) → Unifiers U → (g : Signature Term) → AllAccepted U fuel depth g → (n : ℕ) → Derivable (take n g)
 all-derivable U fuel depth u g h zero = derivable-empty
 all-derivable U fuel depth u g h (suc n) =
     let r = all-derivable U fuel depth u g h n in

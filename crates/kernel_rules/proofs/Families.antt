@@ -5,7 +5,7 @@ use Rattle.std.proofs.lemmas.Bool.{eqb-true}
 use Rattle.std.proofs.lemmas.Bool.Decides.{nat_tests}
 use Rattle.core_rules.specs.Term.{Term, Sort}
 use Rattle.core_rules.specs.Signature.{Signature, Context, onto, FamDecl, ConDecl, Family, fams, without_cons}
-use Rattle.core_rules.specs.Elimination.{pi_over}
+use Rattle.core_rules.specs.Elimination.{pi_over, con_end}
 use Rattle.core_rules.specs.Typing as T
 use Rattle.core_rules.specs.Typing.{Typing, WellFormed, HasSort}
 use Rattle.core_rules.specs.Derivable as D
@@ -16,7 +16,7 @@ use Rattle.kernel_rules.specs.Outcome.{Gives, Refuses}
 use Rattle.kernel_rules.specs.TermReading.{InferOf, IsTypeOf}
 use Rattle.core_rules.specs.TreeLaws.{IsSound}
 use Rattle.kernel_rules.specs.Refusals.{DeclRefusal}
-use Rattle.kernel_rules.specs.FamilyReading.{none_above, con_end, LevelsOf, ConOf, ConsOf, FamilyOf}
+use Rattle.kernel_rules.specs.FamilyReading.{none_above, LevelsOf, ConOf, ConsOf, FamilyOf}
 use Rattle.kernel_rules.proofs.Outcome.{one_gives, then-gives}
 use Rattle.kernel_rules.proofs.Sound.{infer_typed, by-type}
 use Rattle.core_rules.proofs.Trees.Sound.{derivable-sound}

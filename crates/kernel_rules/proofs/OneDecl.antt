@@ -10,8 +10,9 @@ use Rattle.core_rules.specs.TypedTree.{Splitting, con_context, with_con, index_e
 use Rattle.kernel_rules.specs.Outcome.{Outcome, Gives}
 use Rattle.kernel_rules.specs.TermReading.{form_shown, spine_shown}
 use Rattle.kernel_rules.specs.Refusals.{DeclRefusal, ConShape, TooBig, BadTree, Demands}
-use Rattle.kernel_rules.specs.FamilyReading.{none_above, con_end, LevelsOf, ConOf, ConsOf, FamilyOf}
-use Rattle.kernel_rules.specs.Unifier.{Unified, HasOneAnswer}
+use Rattle.core_rules.specs.Elimination.{con_end}
+use Rattle.kernel_rules.specs.FamilyReading.{none_above, LevelsOf, ConOf, ConsOf, FamilyOf}
+use Rattle.core_rules.specs.UnifierAnswers.{Unified, HasOneAnswer, Unifier}
 use Rattle.kernel_rules.specs.TreeReading.{pi_shown, family_shown, record_shown, entry_shown, can_split, first_con, split_at, branch_by, refuted_by, IsItsBranch, same, other, ShowsFamily, ShowsSplit, ValuesOf, Unifies, AllRefutedOf, BranchOf, TreeOf, FieldsOf, BranchesOf}
 use Rattle.kernel_rules.specs.DeclReading.{DeclOf}
 use Rattle.kernel_rules.proofs.Outcome.{IsOne, one-is, one-then}
@@ -52,7 +53,7 @@ module _ (g : Signature Term) (fuel depth : ℕ) where
   one-values c' (t ∷ ts) [] r q x y = x ∙ sym y
   one-values c' (t ∷ ts) (e ∷ es) r q x y = one-then (one-values c' ts es) (λ o. one-then (one-checked g fuel depth c' t (under ts e.ty)) (λ o. one-is (Gives tt))) r q x y
 
-  module _ (U : Context Term → List Equation → Unified → Type 0) (one : HasOneAnswer U) where
+  module _ (U : Unifier) (one : HasOneAnswer U) where
     one-unifies : {A : Type 0} (f : Unified → Outcome DeclRefusal A) (c : Context Term) (es : List Equation) → IsOne (Unifies g fuel depth U f c es)
     one-unifies f c es r q x y = x.2 ∙ ap f (one c es x.0 y.0 x.1 y.1) ∙ sym y.2
 
@@ -114,7 +115,7 @@ one-family g fuel depth d r q x y =
     one-then (one-levels g fuel depth [] d.params) (λ ns. one-then (one-levels g fuel depth (onto d.params []) d.indices)
     (λ ms. one-cons (g ++ Family (without_cons d) ∷ []) fuel depth (length (fams g)) d d.cons)) r q x y
 
-pub one-decl : (U : Signature Term → Context Term → List Equation → Unified → Type 0) (g : Signature Term) (fuel depth : ℕ) → ((h : Signature Term) → HasOneAnswer (U h)) → (d : Decl Term) → IsOne (DeclOf U g fuel depth d)
+pub one-decl : (U : Signature Term → Unifier) (g : Signature Term) (fuel depth : ℕ) → ((h : Signature Term) → HasOneAnswer (U h)) → (d : Decl Term) → IsOne (DeclOf U g fuel depth d)
 one-decl U g fuel depth one (Postulate z a) r q x y = one-then (one-is_type g fuel depth [] a) (λ n. one-is (Gives tt)) r q x y
 one-decl U g fuel depth one (Family d) r q x y = one-family g fuel depth d r q x y
 one-decl U g fuel depth one (Open z a) r q x y = x ∙ sym y

@@ -21,7 +21,7 @@ use Rattle.core_rules.proofs.Trees.Scoped.{con_place_of}
 use Rattle.kernel_rules.specs.Outcome.{Gives}
 use Rattle.kernel_rules.specs.TermReading.{InferOf, CheckOf}
 use Rattle.core_rules.specs.TreeLaws.{IsSound}
-use Rattle.kernel_rules.specs.Unifier.{Unified, UnifiedBy, NeverUnified, StuckAt, NoFuel, NoDepth, IsUnified, IsUnifier}
+use Rattle.core_rules.specs.UnifierAnswers.{Unified, UnifiedBy, NeverUnified, StuckAt, NoFuel, NoDepth, IsUnified, IsUnifier, Unifier}
 use Rattle.kernel_rules.specs.TreeReading.{split_at, branch_by, refuted_by, AreSameEntries, IsSameBranch, IsItsBranch, same, other, ValuesOf, IsRefuted, AllRefutedOf, BranchOf, TreeOf, FieldsOf, BranchesOf}
 use Rattle.kernel_rules.proofs.Outcome.{one_gives, then-gives}
 use Rattle.kernel_rules.proofs.Sound.{infer_typed, by-check, form-converts, spine-converts}
@@ -70,16 +70,16 @@ module _ (g : Signature Term) (fuel depth : ℕ) (k : IsSound g) where
       let h2 = then-gives h1.2 in
       T.more (values-fit c' ts es h1.1) (check_typed c' t (under ts e.ty) h2.1)
 
-  module _ (U : Context Term → List Equation → Unified → Type 0) (u : IsUnifier g U) where
+  module _ (U : Unifier) (u : IsUnifier g U) where
     refuted-by : (c : Context Term) (es : List Equation) (v : Unified) → U c es v → Gives tt ≡ refuted_by v → Refutes g c es
     refuted-by c es NeverUnified h e = u.never c es h
-    refuted-by c es (UnifiedBy b) h e = absurd cc
+    refuted-by c es (UnifiedBy ss b) h e = absurd cc
     refuted-by c es (StuckAt t w) h e = absurd cc
     refuted-by c es NoFuel h e = absurd cc
     refuted-by c es NoDepth h e = absurd cc
 
-    unified-by : (c : Context Term) (es : List Equation) (v : Unified) (b : Branch Term) → U c es v → Gives b ≡ branch_by v → IsUnified g c es b
-    unified-by c es (UnifiedBy x) b h e = transport (IsUnified g c es) (sym (one_gives e)) (u.unified c es x h)
+    unified-by : (c : Context Term) (es : List Equation) (v : Unified) (b : Branch Term) → U c es v → Gives b ≡ branch_by v → (ss : List Solution) × IsUnified g c es ss b
+    unified-by c es (UnifiedBy ss x) b h e = (ss, transport (IsUnified g c es ss) (sym (one_gives e)) (u.unified c es ss x h))
     unified-by c es NeverUnified b h e = absurd cc
     unified-by c es (StuckAt t w) b h e = absurd cc
     unified-by c es NoFuel b h e = absurd cc
@@ -106,10 +106,10 @@ module _ (g : Signature Term) (fuel depth : ℕ) (k : IsSound g) where
         let h3 = then-gives h2.2 in
         let v = unified-by (con_context s q con.args) (index_equations s con) h1.1.0 h1.0 h1.1.1 h1.1.2 in
         record {
-          solutions = v.solutions;
-          solves = v.solves;
+          solutions = v.0;
+          solves = v.1.solves;
           realises = record {
-            joins = joins-same (con_context s q con.args) v.solutions b h1.0 (its-same b h1.0 h2.1) v.joins;
+            joins = joins-same (con_context s q con.args) v.0 b h1.0 (its-same b h1.0 h2.1) v.1.joins;
             formed = levels-formed g fuel depth k b.context [] h3.0 h3.1 T.empty;
             fits = values-fit (onto b.context []) b.values (con_context s q con.args) h3.2;
           };

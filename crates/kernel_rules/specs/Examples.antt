@@ -1,23 +1,22 @@
 -- Readings counted by hand, with the plainest unifier.
-use Rattle.std.specs.Prelude.{Some, List, [], ◌∷◌, length, reverse}
+use Rattle.std.specs.Prelude.{Some, [], ◌∷◌, length, reverse}
 use Rattle.core_rules.specs.Term.{Term, Sort, Pi}
 use Rattle.core_rules.specs.declared.Flag.TheVariants.{Explicit}
-use Rattle.core_rules.specs.Signature.{ConDecl, Intro, Absurd, Context, Family, Function, numbers}
-use Rattle.core_rules.specs.Unification.{Equation}
+use Rattle.core_rules.specs.Signature.{ConDecl, Intro, Absurd, Family, Function, numbers}
 use Rattle.core_rules.specs.TypedTree.{vars}
 use Rattle.core_rules.specs.Examples.{nat, data_type}
 use Rattle.core_rules.specs.Typing.{entry}
 use Rattle.kernel_rules.specs.Refusals.{TooBig, BadTree}
 use Rattle.core_rules.specs.Addition.{nat_type, plus_tree}
 use Rattle.kernel_rules.specs.Outcome.{Gives, Refuses}
-use Rattle.kernel_rules.specs.Unifier.{Unified, UnifiedBy, StuckAt}
+use Rattle.core_rules.specs.UnifierAnswers.{UnifiedBy, StuckAt, Answers, answers}
 use Rattle.kernel_rules.specs.FamilyReading.{FamilyOf}
 use Rattle.kernel_rules.specs.DeclReading.{DeclOf}
-use Rattle.kernel_rules.specs.DeclLaws.{answers, Unifiers}
+use Rattle.kernel_rules.specs.DeclLaws.{Unifiers}
 
 -- without equations each variable stays; any equation is one that no rule applies to
-abbrev pub plain : Context Term → List Equation → Unified
-plain c [] = UnifiedBy (record { context = reverse c; values = vars 0 (length c); keep = numbers 0 (length c) })
+abbrev pub plain : Answers
+plain c [] = UnifiedBy [] (record { context = reverse c; values = vars 0 (length c); keep = numbers 0 (length c) })
 plain c (e ∷ es) = StuckAt e.left e.right
 
 abbrev pub PlainUnifies : Type 0

@@ -1,9 +1,9 @@
 -- The kernel's reading of a family: its parameters, its indices, and then constructor by constructor the types of its arguments, its
 -- end, and the levels of its arguments.
 use Rattle.std.specs.Prelude.{◌≡◌, ℕ, Bool, true, false, cond, eqb, ltb, List, [], ◌∷◌, ◌++◌, length}
-use Rattle.core_rules.specs.Term.{Term, Fam}
+use Rattle.core_rules.specs.Term.{Term}
 use Rattle.core_rules.specs.Signature.{Telescope, Context, onto, ConDecl, FamDecl, Family, Signature, fams, without_cons}
-use Rattle.core_rules.specs.Elimination.{elims, args, vars_from}
+use Rattle.core_rules.specs.Elimination.{con_end}
 use Rattle.kernel_rules.specs.Outcome.{Outcome, Gives, Then}
 use Rattle.kernel_rules.specs.TermReading.{IsTypeOf}
 use Rattle.kernel_rules.specs.Refusals.{Refusal, DeclRefusal, ConShape, TooBig, AfterTerms, IsAccepted, Demands}
@@ -12,10 +12,6 @@ use Rattle.kernel_rules.specs.Refusals.{Refusal, DeclRefusal, ConShape, TooBig, 
 abbrev pub none_above : ℕ → List ℕ → Bool
 none_above l [] = true
 none_above l (n ∷ ns) = cond (ltb l n) false (none_above l ns)
-
--- the type in which constructor k of family number n ends: the family at its own parameters and at the constructor's indices
-abbrev pub con_end : ℕ → FamDecl Term → ConDecl Term → Term
-con_end n d k = elims (Fam n) (args d.params (vars_from (length k.args) (length d.params)) ++ args d.indices k.indices)
 
 module _ (g : Signature Term) (fuel depth : ℕ) where
   -- the levels of entries, each of which is read in c and the entries before it

@@ -3,7 +3,6 @@ pub mod Refusals
 pub mod TermReading
 pub mod Laws
 pub mod FamilyReading
-pub mod Unifier
 pub mod TreeReading
 pub mod DeclReading
 pub mod DeclLaws

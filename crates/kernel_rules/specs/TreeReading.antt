@@ -14,7 +14,7 @@ use Rattle.kernel_rules.specs.TermReading.{arguments_for, ShowsForm, ShowsSpine,
 use Rattle.kernel_rules.specs.Refusals as K
 use Rattle.kernel_rules.specs.Refusals.{DeclRefusal, OfKernel, BadTree, AfterTerms, IsAccepted, IsBadTree, Demands}
 use Rattle.kernel_rules.specs.FamilyReading.{LevelsOf}
-use Rattle.kernel_rules.specs.Unifier.{Unified, UnifiedBy, NeverUnified, StuckAt, NoFuel, NoDepth}
+use Rattle.core_rules.specs.UnifierAnswers.{Unified, UnifiedBy, NeverUnified, StuckAt, NoFuel, NoDepth, Unifier}
 
 -- ---- what a head form shows to a node of a tree. Where it does not show what the node needs, no rule has the node
 
@@ -80,14 +80,14 @@ split_at c k f a l = record { context = c; var = k; params = f.params; indices =
 -- ---- what the unifier's answer says of a branch: one that goes on has to be the unifier's, a refuted one has to be refuted by it
 
 abbrev pub branch_by : Unified → Outcome DeclRefusal (Branch Term)
-branch_by (UnifiedBy b) = Gives b
+branch_by (UnifiedBy ss b) = Gives b
 branch_by NeverUnified = Refuses BadTree
 branch_by (StuckAt t u) = Refuses BadTree
 branch_by NoFuel = Refuses (OfKernel K.OutOfFuel)
 branch_by NoDepth = Refuses (OfKernel K.OutOfDepth)
 
 abbrev pub refuted_by : Unified → Outcome DeclRefusal (Unit {0})
-refuted_by (UnifiedBy b) = Refuses BadTree
+refuted_by (UnifiedBy ss b) = Refuses BadTree
 refuted_by NeverUnified = Gives tt
 refuted_by (StuckAt t u) = Refuses BadTree
 refuted_by NoFuel = Refuses (OfKernel K.OutOfFuel)
@@ -126,7 +126,7 @@ module _ (g : Signature Term) (fuel depth : ℕ) where
   ValuesOf c' (t ∷ ts) [] r = IsBadTree r
   ValuesOf c' (t ∷ ts) (e ∷ es) r = Then (ValuesOf c' ts es) (λ o. AfterTerms (CheckOf g fuel depth c' t (under ts e.ty)) (λ o. IsAccepted)) r
 
-  module _ (U : Context Term → List Equation → Unified → Type 0) where
+  module _ (U : Unifier) where
     abbrev pub Unifies : {A : Type 0} → (Unified → Outcome DeclRefusal A) → Context Term → List Equation → Outcome DeclRefusal A → Type 0
     Unifies f c es r = (v : Unified) × U c es v × (r ≡ f v)
 

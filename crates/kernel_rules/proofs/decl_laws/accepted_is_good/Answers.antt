@@ -1,4 +1,4 @@
-use Rattle.kernel_rules.specs.DeclLaws.{answers}
+use Rattle.core_rules.specs.UnifierAnswers.{answers}
 use Rattle.kernel_rules.proofs.Decls.{decl-good}
 use Rattle.kernel_rules.proofs.decl_laws.accepted_is_good.Goals as goal
 

@@ -1,4 +1,4 @@
-use Rattle.kernel_rules.specs.DeclLaws.{answers}
+use Rattle.core_rules.specs.UnifierAnswers.{answers}
 use Rattle.kernel_rules.proofs.Trees.{tree-typed}
 use Rattle.kernel_rules.proofs.decl_laws.accepted_tree_is_typed.Goals as goal
 

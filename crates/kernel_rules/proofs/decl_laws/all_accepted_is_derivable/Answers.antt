@@ -2,7 +2,7 @@ use Rattle.std.proofs.Common.{subst, arith}
 use Rattle.std.specs.Prelude.{length}
 use Rattle.std.proofs.lemmas.List.{take_all}
 use Rattle.core_rules.specs.Derivable.{Derivable}
-use Rattle.kernel_rules.specs.DeclLaws.{answers}
+use Rattle.core_rules.specs.UnifierAnswers.{answers}
 use Rattle.kernel_rules.proofs.Decls.{all-derivable}
 use Rattle.kernel_rules.proofs.decl_laws.all_accepted_is_derivable.Goals as goal
 

@@ -1,5 +1,5 @@
 use Rattle.std.proofs.Common.{◌∙◌, sym}
-use Rattle.kernel_rules.specs.DeclLaws.{answers}
+use Rattle.core_rules.specs.UnifierAnswers.{answers}
 use Rattle.kernel_rules.proofs.OneDecl.{one-tree}
 use Rattle.kernel_rules.proofs.decl_laws.one_tree_outcome.Goals as goal
 
