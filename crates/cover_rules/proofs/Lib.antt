@@ -1,0 +1,12 @@
+mod Flagged
+mod One
+mod Faces
+mod Rank
+mod Plans
+mod Falls
+mod Missed
+mod Agrees
+mod Accepted
+mod Total
+mod Example
+mod Plain
