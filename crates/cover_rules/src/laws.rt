@@ -2,7 +2,7 @@
 //! The statements stand in `specs/Laws.antt`, under the same names.
 
 ghost use Rattle.cover_rules.specs.Laws.{OneCover, AcceptedCovers, MissingClashes, CoverFalls, ExactlyOneCover, ClausesPlain};
-ghost use Rattle.cover_rules.specs.Example.{SuccessorMissed};
+ghost use Rattle.cover_rules.specs.Example.{FirstCovered, SuccessorMissed};
 
 /// A left side has at most one answer, whichever metavariables are solved.
 pub fn one_cover()
@@ -32,6 +32,11 @@ pub fn exactly_one_cover()
 /// One clause for zero misses the successor.
 pub fn successor_missed()
     ensures { SuccessorMissed }
+{}
+
+/// The first item of a vector that has one: its one clause has the tree that refutes nil.
+pub fn first_covered()
+    ensures { FirstCovered }
 {}
 
 /// The patterns of a clause name constructors by their kind.
