@@ -9,6 +9,7 @@ pub mod Fewer
 pub mod Nearer
 pub mod Ends
 pub mod WithSolutions
+mod Answered
 pub mod Order
 pub mod Sound
 pub mod Joining

@@ -1,5 +1,6 @@
 //! The laws of the unifier. Each is the contract of a function that does nothing; the statements are in `specs/UnifierLaws`.
 
+ghost use Rattle.unify_rules.specs.Answered.{AnswersUnify, ExactlyOneAnswer};
 ghost use Rattle.unify_rules.specs.UnifierLaws.{OneOutcome, OutcomeStands, TurnsFall, OutcomeBySteps, SolvedSolves, ConflictRefutes, CycleRefutes, SolvedJoins, BranchInOrder, BranchTypes, OutcomeWithSolutions, TurnWithSolutions, VerdictOfHeadForms};
 
 /// A state has one answer, after one number of turns.
@@ -65,4 +66,14 @@ pub fn turn_with_solutions()
 /// Two terms have the verdict of their head forms, where these are not the same term.
 pub fn verdict_of_head_forms()
     ensures { VerdictOfHeadForms }
+{}
+
+/// In a sound signature the answers are those of a unifier: what it solves and refutes comes by steps, and its branches join.
+pub fn answers_unify()
+    ensures { AnswersUnify }
+{}
+
+/// All equations in any context have exactly one answer.
+pub fn exactly_one_answer()
+    ensures { ExactlyOneAnswer }
 {}
