@@ -1,17 +1,11 @@
 //! Calls the head forms on terms and a signature that no text has, and prints what it saw. The arguments name lists of rows; a row
-//! says what it shows, and has its terms in words (`words`).
+//! says what it shows, and has its terms in words (`case_terms`).
 #![tactic(auto)]
 
-mod declared;
-mod fault;
-mod metas;
 mod rows;
-mod terms;
-mod trees;
-mod words;
 mod world;
 
-use fault::Fault;
+use case_terms::Fault;
 use rows::show_row;
 use std::{env, fs};
 

@@ -1,9 +1,6 @@
-use crate::declared::Bodies;
-use crate::fault::Fault;
-use crate::metas::{Metas, Solved};
-use crate::words::term;
 use crate::world::World;
-use core_terms::{Limits, TermId, TermPool};
+use case_terms::{Bodies, Fault, Metas, Solved, term};
+use core_terms::{TermId, TermPool};
 use std::alloc::Global;
 
 /// What a row asks for.
@@ -12,14 +9,12 @@ enum Kind {
     Head,
     HeadWithSolutions,
     Number,
-    Verdict,
-    VerdictWithSolutions,
 }
 
 #[derive(Clone, Copy)]
 struct Row<'a> {
     kind: Kind,
-    limits: Limits,
+    fuel: u32,
     what: &'a str,
     term: &'a str,
     wanted: &'a str,
@@ -39,22 +34,8 @@ fn read_kind(word: &str) -> Result<Kind, Fault> {
         "head" => Ok(Kind::Head),
         "solved" => Ok(Kind::HeadWithSolutions),
         "read" => Ok(Kind::Number),
-        "conv" => Ok(Kind::Verdict),
-        "conv-solved" => Ok(Kind::VerdictWithSolutions),
         _ => Err(Fault::NoRow),
     }
-}
-
-/// Fuel, or fuel and depth.
-fn read_limits(words: &str) -> Result<Limits, Fault> {
-    let (fuel, depth) = words.split_once(',').unwrap_or((words, "0"));
-    let fuel = fuel.parse::<u32>().map_err(|_| Fault::NoRow)?;
-    let depth = depth.parse::<u32>().map_err(|_| Fault::NoRow)?;
-    Ok(Limits {
-        fuel,
-        depth,
-        order: 0,
-    })
 }
 
 fn read_row(line: &str) -> Result<Row<'_>, Fault> {
@@ -63,10 +44,10 @@ fn read_row(line: &str) -> Result<Row<'_>, Fault> {
     let (what, rest) = rest.split_once('|').ok_or(Fault::NoRow)?;
     let (term, wanted) = rest.split_once('|').unwrap_or((rest, rest));
     let kind = read_kind(kind)?;
-    let limits = read_limits(fuel)?;
+    let fuel = fuel.parse::<u32>().map_err(|_| Fault::NoRow)?;
     Ok(Row {
         kind,
-        limits,
+        fuel,
         what,
         term,
         wanted,
@@ -75,12 +56,12 @@ fn read_row(line: &str) -> Result<Row<'_>, Fault> {
 
 fn metas_of(alloc: Global, pool: &mut TermPool, kind: Kind) -> Result<Metas, Fault> {
     match kind {
-        Kind::HeadWithSolutions | Kind::VerdictWithSolutions => {
+        Kind::HeadWithSolutions => {
             let first = term(alloc, pool, "2 \\")?;
             let second = term(alloc, pool, "0 1 ?0")?;
             Ok(Metas::Solved(Solved { first, second }))
         }
-        Kind::Head | Kind::Number | Kind::Verdict => Ok(Metas::Unsolved),
+        Kind::Head | Kind::Number => Ok(Metas::Unsolved),
     }
 }
 
@@ -100,12 +81,9 @@ pub fn show_row(rt: &HostRuntime, line: &str) -> Result<(), Fault> {
     let asked = ask(rt.alloc(), &mut pool, &row)?;
     let mut world = World::over(rt.alloc(), pool, asked.bodies, asked.metas)?;
     match row.kind {
-        Kind::Number => world.show_number(rt, row.what, asked.term, row.limits.fuel),
+        Kind::Number => world.show_number(rt, row.what, asked.term, row.fuel),
         Kind::Head | Kind::HeadWithSolutions => {
-            world.show_head(rt, row.what, asked.term, asked.wanted, row.limits.fuel)
-        }
-        Kind::Verdict | Kind::VerdictWithSolutions => {
-            world.show_verdict(rt, row.what, asked.term, asked.wanted, row.limits)
+            world.show_head(rt, row.what, asked.term, asked.wanted, row.fuel)
         }
     }
 }

@@ -1,12 +1,8 @@
 ghost use Rattle.std.specs.Prelude.{◌<◌, length, IfOk};
 ghost use Rattle.core_terms.specs.Signature.{Stands};
 
-use crate::declared::{Bodies, declared};
-use crate::fault::Fault;
-use crate::metas::{Metas, Solved, is_chain};
-use crate::terms::is_in;
-use conversion::{Conv, convert};
-use core_terms::{Limits, NoSolutions, Node, Signature, TermId, TermPool};
+use case_terms::{Bodies, Fault, Metas, Solved, is_chain, is_in, signature};
+use core_terms::{NoSolutions, Node, Signature, TermId, TermPool};
 use std::alloc::Global;
 use std::io;
 use weak_head::{Head, head};
@@ -25,7 +21,7 @@ impl World {
     pub fn over(alloc: Global, pool: TermPool, bodies: Bodies, metas: Metas) -> Result<World, Fault>
         ensures { IfOk result (λ w. Stands w.pool w.sig) }
     {
-        let sig = declared(alloc, &pool, &bodies)?;
+        let sig = signature(alloc, &pool, &bodies)?;
         Ok(World {
             alloc,
             pool,
@@ -74,44 +70,6 @@ impl World {
         Ok(())
     }
 
-    /// Prints the verdict on the two terms.
-    pub fn show_verdict(
-        &mut self,
-        rt: &HostRuntime,
-        what: &str,
-        t: TermId,
-        u: TermId,
-        limits: Limits,
-    ) -> Result<(), Fault>
-        requires { Stands self.old.pool self.old.sig }
-    {
-        let verdict = self.compare(t, u, limits)?;
-        print!(rt; "{what}: ")?;
-        print_verdict(rt, &verdict)?;
-        println!(rt; "")?;
-        Ok(())
-    }
-
-    fn compare(&mut self, t: TermId, u: TermId, limits: Limits) -> Result<Conv, Fault>
-        requires { Stands self.old.pool self.old.sig }
-    {
-        if !is_in(&self.pool, t) {
-            return Err(Fault::Stray);
-        }
-        if !is_in(&self.pool, u) {
-            return Err(Fault::Stray);
-        }
-        match self.metas {
-            Metas::Unsolved => {
-                let verdict = unsolved_verdict(self.alloc, &mut self.pool, &self.sig, t, u, limits);
-                Ok(verdict)
-            }
-            Metas::Solved(solved) => {
-                solved_verdict(self.alloc, &mut self.pool, &self.sig, &solved, t, u, limits)
-            }
-        }
-    }
-
     fn read(&mut self, t: TermId, fuel: u32) -> Result<(u32, u32), Fault>
         requires { Stands self.old.pool self.old.sig }
     {
@@ -145,7 +103,7 @@ impl World {
     }
 }
 
-#[tactic(auto, using(crate::proofs::Chains::stands))]
+#[tactic(auto, using(case_terms::proofs::Chains::stands))]
 fn unsolved_head(alloc: Global, pool: &mut TermPool, sig: &Signature, t: TermId, fuel: u32) -> Head
     requires t { t < length pool.old.trees }
     requires stands { Stands pool.old sig.now }
@@ -154,7 +112,7 @@ fn unsolved_head(alloc: Global, pool: &mut TermPool, sig: &Signature, t: TermId,
     head(alloc, pool, sig, &NoSolutions, t, fuel)
 }
 
-#[tactic(auto, using(crate::proofs::Chains::stands))]
+#[tactic(auto, using(case_terms::proofs::Chains::stands))]
 fn solved_head(
     alloc: Global,
     pool: &mut TermPool,
@@ -171,42 +129,6 @@ fn solved_head(
         return Err(Fault::Stray);
     }
     Ok(head(alloc, pool, sig, solved, t, fuel))
-}
-
-#[tactic(auto, using(crate::proofs::Chains::stands))]
-fn unsolved_verdict(
-    alloc: Global,
-    pool: &mut TermPool,
-    sig: &Signature,
-    t: TermId,
-    u: TermId,
-    limits: Limits,
-) -> Conv
-    requires t { t < length pool.old.trees }
-    requires u { u < length pool.old.trees }
-    requires stands { Stands pool.old sig.now }
-{
-    convert(alloc, pool, sig, &NoSolutions, t, u, limits)
-}
-
-#[tactic(auto, using(crate::proofs::Chains::stands))]
-fn solved_verdict(
-    alloc: Global,
-    pool: &mut TermPool,
-    sig: &Signature,
-    solved: &Solved,
-    t: TermId,
-    u: TermId,
-    limits: Limits,
-) -> Result<Conv, Fault>
-    requires t { t < length pool.old.trees }
-    requires u { u < length pool.old.trees }
-    requires stands { Stands pool.old sig.now }
-{
-    if !is_chain(pool, solved) {
-        return Err(Fault::Stray);
-    }
-    Ok(convert(alloc, pool, sig, solved, t, u, limits))
 }
 
 /// The argument of suc that the term is.
@@ -235,16 +157,5 @@ fn print_head(rt: &HostRuntime, seen: Head, wanted: TermId) -> io::Result<()> {
         }
         Head::OutOfFuel => print!(rt; "out of fuel"),
         Head::NoMemory => print!(rt; "out of memory"),
-    }
-}
-
-fn print_verdict(rt: &HostRuntime, verdict: &Conv) -> io::Result<()> {
-    match verdict {
-        Conv::Yes => print!(rt; "yes"),
-        Conv::No { under, .. } => print!(rt; "no, under {} binders", under.len()),
-        Conv::OutOfFuel => print!(rt; "out of fuel"),
-        Conv::OutOfDepth => print!(rt; "out of depth"),
-        Conv::Blocked { meta } => print!(rt; "blocked by {}", meta.number()),
-        Conv::NoMemory => print!(rt; "out of memory"),
     }
 }
