@@ -11,6 +11,9 @@ pub mod Records
 pub mod Plain
 pub mod Standing
 pub mod First
+pub mod WithClauses
 pub mod Addition
 pub mod Call
 pub mod OneFirst
+pub mod Vectors
+pub mod Pairs

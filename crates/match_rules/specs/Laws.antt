@@ -1,16 +1,22 @@
 -- The statement of first match: where a tree follows its clauses, each clause holds.
-use Rattle.std.specs.Prelude.{◌≡◌, ℕ, List, [], map, Some}
-use Rattle.core_rules.specs.Term.{Term}
+use Rattle.std.specs.Prelude.{◌≡◌, ◌↔◌, ℕ, List, [], ◌∷◌, map, Some}
+use Rattle.core_rules.specs.declared.Flag.TheVariants.{Explicit}
+use Rattle.core_rules.specs.Term.{Term, Terms, App, Def, Proj, IsSameTerm}
 use Rattle.core_rules.specs.Signature.{Signature, Tree, CoreClause, Function, def_decl}
 use Rattle.core_rules.specs.InScope.{SignatureInScope, ClausesInScope, any_meta}
 use Rattle.core_rules.specs.TreeLaws.{HasTypedTrees}
 use Rattle.core_rules.specs.Derivable.{Derivable}
-use Rattle.core_rules.specs.Elimination.{Elim}
-use Rattle.match_rules.specs.Matching.{Shapes, Clause, Bound, Front, Apart, FirstMatch, clause_of, ClauseHolds}
+use Rattle.core_rules.specs.Elimination.{Elim, Arg}
+use Rattle.match_rules.specs.Matching.{Shapes, Clause, Bound, Front, Apart, FirstMatch, Fits, clause_of, ClauseHolds}
 use Rattle.match_rules.specs.Covering.{Covers}
 use Rattle.core_rules.specs.Conversion.{Conv}
 use Rattle.core_rules.specs.Addition.{suc_term, plus_term}
+use Rattle.core_rules.specs.VectorHead.{first_tree}
+use Rattle.core_rules.specs.TreeExamples.{cons_term, swap_term}
+use Rattle.core_rules.specs.Examples.{pair_of}
 use Rattle.match_rules.specs.AdditionClauses.{addition_by_clauses}
+use Rattle.match_rules.specs.VectorClauses.{first_by_clauses}
+use Rattle.match_rules.specs.PairClauses.{swap_by_clauses}
 
 -- the tree of f follows its clauses, from no eliminations on
 abbrev pub IsCovered : Signature Term → ℕ → Type 0
@@ -29,6 +35,26 @@ AdditionClausesHold = Derivable addition_by_clauses × ClausesInScope addition_b
 -- what the second clause says of a call that fits
 abbrev pub PlusOfSuccessor : Type 0
 PlusOfSuccessor = (t u : Term) → Conv addition_by_clauses (plus_term (suc_term t) u) (suc_term (plus_term t u))
+
+-- the first item of a vector by its clause: derivable, the clause is in scope, the tree follows it, and so it holds
+abbrev pub VectorClausesHold : Type 0
+VectorClausesHold = Derivable first_by_clauses × ClausesInScope first_by_clauses any_meta × IsCovered first_by_clauses 0 × ((i : ℕ) → ClauseHolds first_by_clauses 0 i)
+
+-- a call at cons fits exactly where the implicit argument of cons has the value that its index forces, names apart
+abbrev pub ForcedIndexFits : Type 0
+ForcedIndexFits = (ps : Terms) (n m x xs : Term) → Fits first_by_clauses first_tree [] (Arg Explicit n ∷ Arg Explicit (cons_term ps m x xs) ∷ []) ↔ IsSameTerm m n
+
+-- what the clause says of a call that fits
+abbrev pub FirstOfCons : Type 0
+FirstOfCons = (ps : Terms) (n x xs : Term) → Conv first_by_clauses (App Explicit (App Explicit (Def 0) n) (cons_term ps n x xs)) x
+
+-- pairs turned by a clause on a record that has eta: derivable, the clause is in scope, the tree follows it, and so it holds
+abbrev pub PairClausesHold : Type 0
+PairClausesHold = Derivable swap_by_clauses × ClausesInScope swap_by_clauses any_meta × IsCovered swap_by_clauses 0 × ((i : ℕ) → ClauseHolds swap_by_clauses 0 i)
+
+-- what the clause says of any pair, since the pattern is matched by projections
+abbrev pub SwapOfAny : Type 0
+SwapOfAny = (a b p : Term) → Conv swap_by_clauses (swap_term 0 a b p) (pair_of b a (Proj 1 p) (Proj 0 p))
 
 -- matching has one answer: a match with what it binds and what remains, a clash, or neither
 abbrev pub OneMatch : Type 0

@@ -1,7 +1,7 @@
 //! First match. Each law is the contract of a function that does nothing.
 //! The statements stand in `specs/Laws.antt`, under the same names.
 
-ghost use Rattle.match_rules.specs.Laws.{CoveredClausesHold, DerivableClausesHold, AdditionClausesHold, PlusOfSuccessor, OneMatch, NoMatchAndClash, OneFirstMatch};
+ghost use Rattle.match_rules.specs.Laws.{CoveredClausesHold, DerivableClausesHold, AdditionClausesHold, PlusOfSuccessor, VectorClausesHold, ForcedIndexFits, FirstOfCons, PairClausesHold, SwapOfAny, OneMatch, NoMatchAndClash, OneFirstMatch};
 
 /// In a signature in scope whose trees are typed, each clause of a function whose tree follows its clauses holds.
 pub fn covered_clauses_hold()
@@ -21,6 +21,31 @@ pub fn addition_clauses_hold()
 /// The second clause of addition, at a call that fits.
 pub fn plus_of_successor()
     ensures { PlusOfSuccessor }
+{}
+
+/// The first item of a vector by its clause is derivable, the clause is in scope, its tree follows it, and it holds.
+pub fn vector_clauses_hold()
+    ensures { VectorClausesHold }
+{}
+
+/// Its call at cons fits exactly where the implicit argument of cons is the number, names apart.
+pub fn forced_index_fits()
+    ensures { ForcedIndexFits }
+{}
+
+/// The clause at such a call.
+pub fn first_of_cons()
+    ensures { FirstOfCons }
+{}
+
+/// Pairs turned by a clause on a record that has eta: derivable, the clause is in scope, the tree follows it, and it holds.
+pub fn pair_clauses_hold()
+    ensures { PairClausesHold }
+{}
+
+/// The clause at any pair.
+pub fn swap_of_any()
+    ensures { SwapOfAny }
 {}
 
 /// Patterns match eliminations in one way.

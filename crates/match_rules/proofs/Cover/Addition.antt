@@ -1,5 +1,5 @@
 -- The case tree of addition is typed and follows its clauses.
-use Rattle.std.specs.Prelude.{◌≡◌, ◌≢◌, ℕ, false, eqb, List, [], ◌∷◌, ◌++◌, length, map, take, slice_get, Option, Some, None, refl, zero, suc}
+use Rattle.std.specs.Prelude.{◌≡◌, ◌≢◌, ℕ, false, eqb, List, [], ◌∷◌, ◌++◌, length, take, slice_get, Option, Some, None, refl, zero, suc}
 use Rattle.std.specs.List.{AllByRecursion}
 use Rattle.std.proofs.Common.{subst as transport, arith}
 use Rattle.std.proofs.lemmas.Grind.{common_steps}
@@ -29,6 +29,7 @@ use Rattle.match_rules.specs.Laws.{IsCovered}
 use Rattle.core_rules.proofs.Signature.Growth.{derivable-extended}
 use Rattle.core_rules.proofs.Derivations.{derivable-empty, good_nat, no_metas}
 use Rattle.core_rules.proofs.Heads.OneAnswer.{one_some}
+use Rattle.match_rules.proofs.Cover.WithClauses.{covered_as}
 
 abbrev plus_type : Term
 plus_type = Pi Explicit 0 nat_type (Pi Explicit 0 nat_type nat_type)
@@ -78,14 +79,8 @@ branched (suc (suc c)) con b S d e =
 covered : Covers addition_by_clauses sums 0 [] plus_covered
 covered = V.next Explicit (V.argument V.end V.of_con) (V.splits [] (V.at_split (V.arg V.at_var V.end)) branched)
 
-same_function : {x y : ℕ} {a b : Term} {qs rs : List (CoreClause Term)} {S R : Tree Term} → Some (Function x a qs S) ≡ Some (Function y b rs R) → (qs ≡ rs) × (S ≡ R)
-same_function e = (cc e, cc e)
-
 pub is_covered : IsCovered addition_by_clauses 0
-is_covered x a qs S e =
-    let p = same_function e in
-    transport (λ S. Covers addition_by_clauses (map (clause_of addition_by_clauses) qs) 0 [] S) p.1
-    (transport (λ qs. Covers addition_by_clauses (map (clause_of addition_by_clauses) qs) 0 [] plus_covered) p.0 covered)
+is_covered = covered_as addition_by_clauses 0 3 plus_type (zero_clause ∷ suc_clause ∷ []) plus_covered refl covered
 
 -- the derivation
 
