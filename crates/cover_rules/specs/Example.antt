@@ -1,5 +1,5 @@
 -- Functions with their clauses and the trees that they have, or why they have none.
-use Rattle.std.specs.Prelude.{true, [], ◌∷◌, length, reverse, Some, None}
+use Rattle.std.specs.Prelude.{true, [], ◌∷◌, length, reverse, Some}
 use Rattle.core_rules.specs.declared.Flag.TheVariants.{Explicit}
 use Rattle.core_rules.specs.Term.{Term, Var, App, Con, Pi, End}
 use Rattle.core_rules.specs.Signature.{Written, Variable, Without, Pat, VarPat, ConPat, NoPat, AndPat, CheckedLeft, Family, Open, Signature, numbers}
@@ -9,7 +9,8 @@ use Rattle.core_rules.specs.Addition.{nat_type}
 use Rattle.core_rules.specs.VectorHead.{at_cons, first_type, first_tree, vectors}
 use Rattle.core_rules.specs.TypedTree.{vars}
 use Rattle.core_rules.specs.BoundedLaws.{no_solutions}
-use Rattle.match_rules.specs.Matching.{Any, OfCon, NoShape, AndShape, Clause}
+use Rattle.match_rules.specs.Matching.{OfCon, NoShape, AndShape, Clause, clause_of}
+use Rattle.match_rules.specs.VectorClauses.{first_clause}
 use Rattle.cover_rules.specs.LeftSide.{root}
 use Rattle.core_rules.specs.UnifierAnswers.{Unified, UnifiedBy, NeverUnified, StuckAt, Answers, answers}
 use Rattle.cover_rules.specs.CoverOf.{Done, Failed, Missing, CoverOf}
@@ -42,14 +43,6 @@ SuccessorMissed = CoverOf one_function no_solutions 0 (answers no_equations) 0 (
 
 -- The first item of a vector that has one, by one clause: the split at the vector solves the index equation of cons and refutes that of nil
 
--- first n (cons x xs) = x, where the implicit argument of cons has the value n
-abbrev pub first_clause : Clause
-first_clause = record {
-  shapes = AndShape (Any (Some 2)) (AndShape (OfCon 3 (AndShape (Any None) (AndShape (Any (Some 1)) (AndShape (Any (Some 0)) NoShape)))) NoShape);
-  size = 3;
-  right = Some (Var 1);
-}
-
 -- the answers to the two equations that are asked: zero = suc n for nil, and suc m = suc n for cons
 abbrev pub first_by_index : Term → Unified
 first_by_index (App b t u) = UnifiedBy (record { var = 2; value = Var 3 } ∷ []) at_cons
@@ -60,4 +53,4 @@ first_answers c [] = NeverUnified
 first_answers c (e ∷ es) = first_by_index e.left
 
 abbrev pub FirstCovered : Type 0
-FirstCovered = CoverOf vectors no_solutions 0 (answers first_answers) 0 (first_clause ∷ []) (root first_type) (Done first_tree)
+FirstCovered = CoverOf vectors no_solutions 0 (answers first_answers) 0 (clause_of vectors first_clause ∷ []) (root first_type) (Done first_tree)

@@ -2,7 +2,7 @@
 use Rattle.std.specs.Prelude.{[], ◌∷◌, Some}
 use Rattle.core_rules.specs.declared.Flag.TheVariants.{Explicit}
 use Rattle.core_rules.specs.Term.{Term, Var}
-use Rattle.core_rules.specs.Signature.{Pat, VarPat, SolvedPat, ConPat, NoPat, AndPat, Written, Inserted, Without, CoreClause, Family, Function, Signature}
+use Rattle.core_rules.specs.Signature.{Pat, VarPat, SolvedPat, ConPat, NoPat, AndPat, Written, Inserted, Without, Plain, CoreClause, Family, Function, Signature}
 use Rattle.core_rules.specs.Typing.{entry}
 use Rattle.core_rules.specs.Examples.{nat, vec}
 use Rattle.core_rules.specs.Addition.{nat_type}
@@ -14,11 +14,11 @@ first_clause = record {
   left = record {
     context = entry Explicit 0 nat_type ∷ entry Explicit 8 nat_type ∷ entry Explicit 9 (vector (Var 1)) ∷ [];
     pats = AndPat (Pat (VarPat 2) Written Without) (AndPat (Pat (ConPat 3
-        (AndPat (Pat (SolvedPat (Var 2)) Inserted Without) (AndPat (Pat (VarPat 1) Written Without) (AndPat (Pat (VarPat 0) Written Without) NoPat)))) Written Without) NoPat);
+        (AndPat (Pat (SolvedPat (Var 2)) Inserted Plain) (AndPat (Pat (VarPat 1) Written Without) (AndPat (Pat (VarPat 0) Written Without) NoPat)))) Written Without) NoPat);
     ty = nat_type;
     named = [];
     dots = [];
-    inserted = 0;
+    inserted = 1;
   };
   right = Some (Var 1);
 }
