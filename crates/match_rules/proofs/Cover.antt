@@ -17,3 +17,4 @@ pub mod Call
 pub mod OneFirst
 pub mod Vectors
 pub mod Pairs
+pub mod Unfit

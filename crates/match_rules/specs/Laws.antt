@@ -1,20 +1,20 @@
 -- The statement of first match: where a tree follows its clauses, each clause holds.
-use Rattle.std.specs.Prelude.{◌≡◌, ◌↔◌, ℕ, List, [], ◌∷◌, map, Some}
-use Rattle.core_rules.specs.declared.Flag.TheVariants.{Explicit}
-use Rattle.core_rules.specs.Term.{Term, Terms, App, Def, Proj, IsSameTerm}
+use Rattle.std.specs.Prelude.{◌≡◌, ◌≢◌, ◌↔◌, ℕ, List, [], ◌∷◌, map, Some}
+use Rattle.core_rules.specs.declared.Flag.TheVariants.{Explicit, Implicit}
+use Rattle.core_rules.specs.Term.{Term, Terms, App, Con, Def, Proj, End, IsSameTerm}
 use Rattle.core_rules.specs.Signature.{Signature, Tree, CoreClause, Function, def_decl}
 use Rattle.core_rules.specs.InScope.{SignatureInScope, ClausesInScope, any_meta}
 use Rattle.core_rules.specs.TreeLaws.{HasTypedTrees}
 use Rattle.core_rules.specs.Derivable.{Derivable}
-use Rattle.core_rules.specs.Elimination.{Elim, Arg}
+use Rattle.core_rules.specs.Elimination.{Elim, Arg, Field}
 use Rattle.match_rules.specs.Matching.{Shapes, Clause, Bound, Front, Apart, FirstMatch, Fits, clause_of, ClauseHolds}
 use Rattle.match_rules.specs.Covering.{Covers}
 use Rattle.core_rules.specs.Conversion.{Conv}
 use Rattle.core_rules.specs.Addition.{suc_term, plus_term}
 use Rattle.core_rules.specs.VectorHead.{first_tree}
-use Rattle.core_rules.specs.TreeExamples.{cons_term, swap_term}
+use Rattle.core_rules.specs.TreeExamples.{cons_term, swap_term, turn_tree}
 use Rattle.core_rules.specs.Examples.{pair_of}
-use Rattle.match_rules.specs.AdditionClauses.{addition_by_clauses}
+use Rattle.match_rules.specs.AdditionClauses.{plus_covered, addition_by_clauses}
 use Rattle.match_rules.specs.VectorClauses.{first_by_clauses}
 use Rattle.match_rules.specs.PairClauses.{swap_by_clauses}
 
@@ -47,6 +47,14 @@ ForcedIndexFits = (ps : Terms) (n m x xs : Term) → Fits first_by_clauses first
 -- what the clause says of a call that fits
 abbrev pub FirstOfCons : Type 0
 FirstOfCons = (ps : Terms) (n x xs : Term) → Conv first_by_clauses (App Explicit (App Explicit (Def 0) n) (cons_term ps n x xs)) x
+
+-- with its argument in braces the constructor does not fit the split
+abbrev pub OtherFlagUnfit : Type 0
+OtherFlagUnfit = (t u : Term) → Fits addition_by_clauses plus_covered [] (Arg Explicit (App Implicit (Con 1 End) t) ∷ Arg Explicit u ∷ []) → ⊥
+
+-- a projection that has no branch does not fit the cosplit
+abbrev pub OtherFieldUnfit : Type 0
+OtherFieldUnfit = (g : Signature Term) (a b p : Term) (f : ℕ) → f ≢ 0 → f ≢ 1 → Fits g turn_tree [] (Arg Explicit a ∷ Arg Explicit b ∷ Arg Explicit p ∷ Field f ∷ []) → ⊥
 
 -- pairs turned by a clause on a record that has eta: derivable, the clause is in scope, the tree follows it, and so it holds
 abbrev pub PairClausesHold : Type 0

@@ -1,7 +1,7 @@
 //! First match. Each law is the contract of a function that does nothing.
 //! The statements stand in `specs/Laws.antt`, under the same names.
 
-ghost use Rattle.match_rules.specs.Laws.{CoveredClausesHold, DerivableClausesHold, AdditionClausesHold, PlusOfSuccessor, VectorClausesHold, ForcedIndexFits, FirstOfCons, PairClausesHold, SwapOfAny, OneMatch, NoMatchAndClash, OneFirstMatch};
+ghost use Rattle.match_rules.specs.Laws.{CoveredClausesHold, DerivableClausesHold, AdditionClausesHold, PlusOfSuccessor, VectorClausesHold, ForcedIndexFits, FirstOfCons, OtherFlagUnfit, OtherFieldUnfit, PairClausesHold, SwapOfAny, OneMatch, NoMatchAndClash, OneFirstMatch};
 
 /// In a signature in scope whose trees are typed, each clause of a function whose tree follows its clauses holds.
 pub fn covered_clauses_hold()
@@ -36,6 +36,16 @@ pub fn forced_index_fits()
 /// The clause at such a call.
 pub fn first_of_cons()
     ensures { FirstOfCons }
+{}
+
+/// A call of addition whose constructor has its argument in braces does not fit.
+pub fn other_flag_unfit()
+    ensures { OtherFlagUnfit }
+{}
+
+/// A projection that a cosplit has no branch for does not fit.
+pub fn other_field_unfit()
+    ensures { OtherFieldUnfit }
 {}
 
 /// Pairs turned by a clause on a record that has eta: derivable, the clause is in scope, the tree follows it, and it holds.
