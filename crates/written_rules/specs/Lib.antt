@@ -1,0 +1,7 @@
+pub mod Asking
+pub mod Refusals
+pub mod Needs
+pub mod Rules
+pub mod Expressions
+pub mod Laws
+pub mod Examples
