@@ -1,7 +1,7 @@
 -- The last projection of eliminations, which comes first in code.
 use Rattle.std.specs.Prelude.{◌≡◌, eqb, true, false, is_some, cond, ℕ, zero, suc, ◌+◌, ◌<◌, List, [], ◌∷◌, ◌++◌, length, map, reverse, take, drop, get_or, ◌-◌, slice_get, Option, Some, None, option_map, refl}
 use Rattle.std.specs.List.{AllByRecursion}
-use Rattle.std.proofs.Common.{arith, ap, ap₂, sym, ◌∙◌, subst}
+use Rattle.std.proofs.Common.{arith, ap, sym, ◌∙◌}
 use Rattle.std.proofs.lemmas.Grind.{common_steps}
 use Rattle.std.proofs.lemmas.List.{reverse-append, map-append, append_assoc, take-append-drop, take_all, length-drop, length-map, length-reverse}
 use Rattle.el_base.proofs.Throughout.{all-reverse, all-map}

@@ -1,6 +1,6 @@
 -- The fields of a value against the projections of another term.
-use Rattle.std.specs.Prelude.{◌≡◌, ◌≢◌, ℕ, zero, suc, Bool, true, false, cond, List, [], ◌∷◌, ◌++◌, length, map, reverse, Option, Some, None, IfSome, option_map, refl}
-use Rattle.std.proofs.Common.{arith, ap, ap₂, sym, ◌∙◌, subst}
+use Rattle.std.specs.Prelude.{◌≡◌, ◌≢◌, ℕ, suc, true, cond, List, [], ◌∷◌, length, map, reverse, Option, Some, None, IfSome, refl}
+use Rattle.std.proofs.Common.{ap, sym, ◌∙◌, subst}
 use Rattle.std.proofs.lemmas.List.{length-map, length-reverse}
 use Rattle.el_base.proofs.Lists.{map-reverse}
 use Rattle.core_rules.specs.declared.Flag.{Flag}
@@ -8,7 +8,6 @@ use Rattle.core_rules.specs.declared.Flag.TheVariants.{Explicit, Implicit}
 use Rattle.core_rules.specs.Term.{Term, Proj}
 use Rattle.core_rules.specs.Signature.{Signature}
 use Rattle.core_rules.specs.Elimination.{Elim, Arg, Field, elims, projections}
-use Rattle.core_rules.specs.Bounded as B
 use Rattle.core_rules.specs.Bounded.{Decision, Pair, argument_parts, by_field, by_kind, last_field, parts_or, same_flag, term_parts, with_part}
 use Rattle.weak_head.specs.declared.elim.Elim as E
 use Rattle.weak_head.specs.declared.elim.Elim.TheVariants as V

@@ -1,9 +1,8 @@
 -- The parts of two heads, by their nodes.
-use Rattle.std.specs.Prelude.{◌≡◌, ◌==◌, ℕ, Bool, true, false, eqb, cond, List, [], ◌∷◌, ◌++◌, length, Option, Some, None, option_map, refl}
+use Rattle.std.specs.Prelude.{◌≡◌, ◌==◌, ℕ, true, false, eqb, cond, List, [], ◌∷◌, ◌++◌, length, Option, Some, None, option_map, refl}
 use Rattle.std.proofs.Common.{rules, ap, ◌∙◌}
 use Rattle.weak_head.specs.declared.elim.Elim as E
 use Rattle.weak_head.specs.Elims.{elim_in, spine_in}
-use Rattle.core_rules.specs.declared.Flag.{Flag}
 use Rattle.core_rules.specs.Term.{Term}
 use Rattle.core_rules.specs.Elimination.{Elim}
 use Rattle.core_rules.specs.Bounded as B

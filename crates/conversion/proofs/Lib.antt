@@ -1,4 +1,4 @@
-mod Slices
+pub mod Slices
 mod Verdicts
 mod Weights
 mod Zip

@@ -1,5 +1,5 @@
 -- What one turn of the loop does to the pairs that wait.
-use Rattle.std.specs.Prelude.{◌≡◌, ◌≢◌, ◌⊎◌, ℕ, ◌+◌, ◌<◌, ◌≤◌, ◌^◌, List, [], ◌∷◌, ◌++◌, length, map, take, refl, Some, zero, suc}
+use Rattle.std.specs.Prelude.{◌≡◌, ◌≢◌, ◌⊎◌, ℕ, ◌<◌, ◌≤◌, ◌^◌, List, [], ◌∷◌, ◌++◌, length, map, take, refl, Some, suc}
 use Rattle.std.specs.List.{AllByRecursion}
 use Rattle.std.proofs.Common.{ap, ap₂, sym, ◌∙◌, subst, arith, subst₂, inl, inr, ⊎_elim, length-append, length-take-le}
 use Rattle.std.proofs.Math.Seq.{take-length}
@@ -18,14 +18,13 @@ use Rattle.conversion.specs.declared.arguments.Part.{Part}
 use Rattle.conversion.specs.declared.outcome.Refusal.{Refusal}
 use Rattle.conversion.specs.declared.outcome.Refusal.TheVariants.{Differ, OutOfFuel, WaitsFor}
 use Rattle.conversion.specs.declared.conv.Conv.{Conv}
-use Rattle.conversion.specs.declared.outcome.Outcome.{Outcome}
 use Rattle.conversion.specs.declared.outcome.Outcome.TheVariants.{Refused}
 use Rattle.conversion.specs.declared.pending.Work.{Work}
 use Rattle.conversion.specs.Conv.{IsVerdict}
 use Rattle.conversion.specs.Part.{names, part_in, PartBelow}
-use Rattle.conversion.specs.Outcome.{decision, refusal, RefusalStands, HaveOutcome}
+use Rattle.conversion.specs.Outcome.{refusal, HaveOutcome}
 use Rattle.conversion.specs.Table.{Depths, yes_at, Puts}
-use Rattle.conversion.specs.Pending.{work_of, Item, item, items, Ordered, IsWork, weigh, turns, IsYes, InTurn, Follows, IsKept, Going, Moves, Decides}
+use Rattle.conversion.specs.Pending.{work_of, Item, item, items, Ordered, IsWork, turns, IsYes, InTurn, Follows, IsKept, Going, Moves, Decides}
 use Rattle.conversion.proofs.Verdicts.{below_below, below_not_yes, decides}
 use Rattle.conversion.proofs.Weights.{turns-pos, weigh_append, weigh_parts, fewer}
 

@@ -1,6 +1,6 @@
 -- The record whose constructor has all its fields, in the signature over ids and in that over trees.
-use Rattle.std.specs.Prelude.{◌≡◌, ◌≢◌, ℕ, zero, suc, ◌≤◌, ◌<◌, ◌+◌, ◌++◌, sum, take, get_or, Bool, true, false, ◌&&◌, eqb, cond, List, [], ◌∷◌, length, map, slice_get, Option, Some, None, option_map, option_and_then, refl}
-use Rattle.std.proofs.Common.{arith, ap, ap₂, sym, ◌∙◌}
+use Rattle.std.specs.Prelude.{◌≡◌, ◌≢◌, ℕ, suc, ◌≤◌, Bool, true, false, ◌&&◌, eqb, cond, List, [], ◌∷◌, length, map, slice_get, Option, Some, None, option_map, option_and_then, refl}
+use Rattle.std.proofs.Common.{arith, ap, sym, ◌∙◌}
 use Rattle.std.proofs.lemmas.Grind.{common_steps}
 use Rattle.std.proofs.lemmas.List.{length-map}
 use Rattle.core_rules.specs.Term.{Term, Terms, Con}
@@ -12,37 +12,8 @@ use Rattle.core_rules.proofs.Heads.Mapped.{con_place-map, con_decl-map, fam_decl
 use Rattle.term_pool.specs.Pool.{Pool, tree}
 use Rattle.core_terms.specs.Signature.{con_total, signature_in}
 use Rattle.weak_head.specs.Elims.{AreArgs, args_of}
-use Rattle.std.proofs.lemmas.Option.{slice_get_past}
-use Rattle.std.proofs.lemmas.List.{length-append, get_or_past}
-use Rattle.std.proofs.lemmas.List.Sums.{sum_by-cons}
-use Rattle.core_rules.specs.Signature.{numbers, places, fams, con_counts, field_counts, fields_of}
-use Rattle.core_rules.proofs.Heads.Mapped.{fields_of-map}
-use Rattle.core_rules.proofs.Signature.Places.{length-numbers}
+use Rattle.weak_head.proofs.Lookups.{no_con}
 use Rattle.conversion.specs.Form.{first_takes, has_eta_with, value_of}
-
--- ---- ids that the signature does not have
-
-length_places : (b : ℕ) (ns : List ℕ) → length (places b ns) ≡ sum ns
-length_places b [] = refl
-length_places b (n ∷ ns) =
-    let f : ℕ → ℕ × ℕ = λ i. (b, i) in
-    length-append (map f (numbers 0 n)) (places (b + 1) ns) ∙ ap₂ (λ x y. x + y) (length-map (numbers 0 n) f ∙ length-numbers 0 n) (length_places (b + 1) ns) ∙ sym (sum_by-cons (λ i. i) n ns)
-
-no_con : (g : Signature ℕ) (k : ℕ) → con_total g ≤ k → con_place g k ≡ None
-no_con g k h = slice_get_past (places 0 (con_counts g)) k (omega (arith, h, length_places 0 (con_counts g)))
-
-pub no_fam : (g : Signature ℕ) (d : ℕ) → length (fams g) ≤ d → fam_decl g d ≡ None
-no_fam g d h = slice_get_past (fams g) d h
-
-pub fields_past : (p : Pool) (g : Signature ℕ) (d : ℕ) → length (fams g) ≤ d → [] ≡ fields_of (signature_in p g) d
-fields_past p g d h =
-    let f : FamDecl ℕ → ℕ = λ d. length d.fields in
-    let l = length-map (fams g) f in
-    let e : get_or (field_counts g) d 0 ≡ 0 = get_or_past (field_counts g) d 0 (omega (arith, h, l)) in
-    sym (fields_of-map (tree p) g d ∙ ap (numbers (sum (take d (field_counts g)))) e)
-
-pub fields_in : (p : Pool) (g : Signature ℕ) (d : ℕ) → fields_of g d ≡ fields_of (signature_in p g) d
-fields_in p g d = sym (fields_of-map (tree p) g d)
 
 -- ---- the value that a constructor is
 

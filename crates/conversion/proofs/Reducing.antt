@@ -1,6 +1,6 @@
 -- Bounded head forms that the code has, and forms as terms, as the pool grows.
-use Rattle.std.specs.Prelude.{◌≡◌, ℕ, ◌<◌, List, length, Option, Some, None, refl}
-use Rattle.std.proofs.Common.{ap, sym, ◌∙◌, subst}
+use Rattle.std.specs.Prelude.{◌≡◌, ℕ, length, Option, Some, None, refl}
+use Rattle.std.proofs.Common.{ap}
 use Rattle.core_rules.specs.Term.{Term}
 use Rattle.core_rules.specs.Signature.{Signature}
 use Rattle.core_rules.specs.Elimination.{elims}

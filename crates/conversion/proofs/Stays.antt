@@ -1,5 +1,5 @@
 -- What eliminations and forms stand for stays as the pool grows.
-use Rattle.std.specs.Prelude.{◌≡◌, ℕ, ◌<◌, List, length, reverse, refl}
+use Rattle.std.specs.Prelude.{◌≡◌, List, length, reverse, refl}
 use Rattle.std.proofs.Common.{arith, ap}
 use Rattle.core_rules.specs.Elimination.{Arg}
 use Rattle.term_pool.specs.Pool.{Pool, Extends, tree}

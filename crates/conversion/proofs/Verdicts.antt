@@ -1,5 +1,5 @@
 -- Verdicts under binders, and answers that are verdicts.
-use Rattle.std.specs.Prelude.{◌≡◌, ◌≢◌, ℕ, List, [], ◌∷◌, ◌++◌, refl}
+use Rattle.std.specs.Prelude.{◌≡◌, ◌≢◌, ℕ, List, [], ◌++◌, refl}
 use Rattle.std.proofs.Common.{ap, sym, append_assoc, subst}
 use Rattle.std.proofs.lemmas.List.{append-nil}
 use Rattle.core_rules.specs.Bounded as B

@@ -1,7 +1,6 @@
 -- The arguments of two spines as parts, from the last one on.
 use Rattle.std.specs.Prelude.{◌≡◌, ◌==◌, ℕ, Bool, true, false, cond, List, [], ◌∷◌, ◌++◌, length, map, reverse, Option, Some, None, option_map, option_and_then, refl}
-use Rattle.std.proofs.Common.{rules, ap, sym, ◌∙◌, arith}
-use Rattle.std.proofs.lemmas.Grind.{common_steps}
+use Rattle.std.proofs.Common.{rules, ap, sym, ◌∙◌}
 use Rattle.std.proofs.lemmas.List.{append-nil, append_assoc, reverse-append, map-append}
 use Rattle.el_base.proofs.Lists.{reverse_push}
 use Rattle.core_rules.specs.Term.{Term}

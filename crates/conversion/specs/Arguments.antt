@@ -1,5 +1,5 @@
 -- The arguments of two spines as parts, and the projections of a term as arguments.
-use Rattle.std.specs.Prelude.{◌≡◌, ◌≢◌, ℕ, List, [], ◌∷◌, length, map, cond, Option, Some, None}
+use Rattle.std.specs.Prelude.{◌≡◌, ◌≢◌, ℕ, List, [], length, map, cond, Option, Some, None}
 use Rattle.std.specs.declared.vec.Vec.{Vec}
 use Rattle.core_rules.specs.declared.Flag.{Flag}
 use Rattle.core_rules.specs.declared.Flag.TheVariants.{Explicit}

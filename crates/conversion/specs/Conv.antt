@@ -1,6 +1,5 @@
 -- When an answer in code is a verdict.
 use Rattle.std.specs.Prelude.{ℕ, ◌<◌, List, length}
-use Rattle.core_rules.specs.Term.{Term}
 use Rattle.core_rules.specs.Bounded as B
 use Rattle.term_pool.specs.Pool.{Pool, tree}
 use Rattle.conversion.specs.declared.conv.Conv as C

@@ -1,5 +1,5 @@
 -- What two head forms ask for, with terms by their ids in a pool.
-use Rattle.std.specs.Prelude.{◌≡◌, ℕ, ◌<◌, List, [], length}
+use Rattle.std.specs.Prelude.{◌≡◌, ℕ, ◌<◌, [], length}
 use Rattle.std.specs.List.{AllByRecursion}
 use Rattle.core_rules.specs.Term.{Term}
 use Rattle.core_rules.specs.Signature.{Signature}

@@ -5,8 +5,8 @@ mod Hops
 mod Resolving
 mod Spines
 mod Environments
-mod Lookups
+pub mod Lookups
 mod Moves
 mod Stays
 mod Calls
-mod Turning
+pub mod Turning

@@ -19,7 +19,7 @@ use Rattle.core_rules.proofs.Signature.Places.{length-numbers}
 use Rattle.term_pool.specs.Pool.{Pool, tree}
 use Rattle.core_terms.specs.Signature.{signature_in, con_total, field_total, Stands}
 
-length_places : (b : ℕ) (ns : List ℕ) → length (places b ns) ≡ sum ns
+pub length_places : (b : ℕ) (ns : List ℕ) → length (places b ns) ≡ sum ns
 length_places b [] = refl
 length_places b (n ∷ ns) =
     let f : ℕ → ℕ × ℕ = λ i. (b, i) in
@@ -51,18 +51,19 @@ at_stands P (d ∷ ds) (suc f) T e h = at_stands P ds f T e h.1
 pub tree_stands : (p : Pool) (g : Signature ℕ) → Stands p g → (f : ℕ) (T : Tree ℕ) → tree_of g f ≡ Some T → AllTree (λ i. i < length p.trees) T
 tree_stands p g h f T e = at_stands (λ i. i < length p.trees) (defs g) f T e (defs_stand (λ i. i < length p.trees) g h)
 
+-- ids that the signature does not have
+pub no_con : (g : Signature ℕ) (k : ℕ) → con_total g ≤ k → con_place g k ≡ None
+no_con g k h = slice_get_past (places 0 (con_counts g)) k (omega (arith, h, length_places 0 (con_counts g)))
+
+pub no_field : (g : Signature ℕ) (f : ℕ) → field_total g ≤ f → field_place g f ≡ None
+no_field g f h = slice_get_past (places 0 (field_counts g)) f (omega (arith, h, length_places 0 (field_counts g)))
+
+pub no_fam : (g : Signature ℕ) (d : ℕ) → length (fams g) ≤ d → fam_decl g d ≡ None
+no_fam g d h = slice_get_past (fams g) d h
+
 module _ (p : Pool) (g : Signature ℕ) where
   pub tree_in : (f : ℕ) (o : Option (Tree ℕ)) → tree_of g f ≡ o → tree_of (signature_in p g) f ≡ option_map (tree_map (tree p)) o
   tree_in f o e = tree_of-map (tree p) g f ∙ ap (option_map (tree_map (tree p))) e
-
-  pub no_con : (k : ℕ) → con_total g ≤ k → con_place g k ≡ None
-  no_con k h = slice_get_past (places 0 (con_counts g)) k (omega (arith, h, length_places 0 (con_counts g)))
-
-  pub no_field : (f : ℕ) → field_total g ≤ f → field_place g f ≡ None
-  no_field f h = slice_get_past (places 0 (field_counts g)) f (omega (arith, h, length_places 0 (field_counts g)))
-
-  pub no_fam : (d : ℕ) → length (fams g) ≤ d → fam_decl g d ≡ None
-  no_fam d h = slice_get_past (fams g) d h
 
   pub fields_past : (d : ℕ) → length (fams g) ≤ d → fields_of (signature_in p g) d ≡ []
   fields_past d h =

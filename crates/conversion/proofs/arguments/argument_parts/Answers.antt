@@ -1,4 +1,4 @@
-use Rattle.std.proofs.Common.{◌≡◌, ℕ, [], ◌∷◌, length, take, drop, ◌-◌, Some, None, ap, sym, ◌∙◌, subst}
+use Rattle.std.proofs.Common.{length, take, drop, ◌-◌, None, sym, ◌∙◌, subst}
 use Rattle.std.specs.List.{AllByRecursion}
 use Rattle.el_base.proofs.Throughout.{all-push}
 use Rattle.core_rules.specs.Bounded.{argument_parts}

@@ -1,5 +1,5 @@
-use Rattle.std.proofs.Common.{◌≡◌, ℕ, ◌<◌, ◌+◌, ◌-◌, ◌∷◌, [], ◌++◌, length, map, take, drop, ap, sym, ◌∙◌, subst, arith}
-use Rattle.core_rules.specs.Term.{Term, Proj}
+use Rattle.std.proofs.Common.{◌-◌, ◌++◌, length, map, take, drop, ap, sym, ◌∙◌, subst}
+use Rattle.core_rules.specs.Term.{Proj}
 use Rattle.el_base.proofs.Throughout.{all-push}
 use Rattle.term_pool.specs.Pool.{tree}
 use Rattle.term_pool.specs.Growth.{Extends-trans, Extends-tree}

@@ -1,10 +1,6 @@
 -- The loop keeps what is left, and what it leads to.
-use Rattle.std.proofs.Common.{◌≡◌, ◌∷◌, ◌++◌, [], ℕ, Option, reverse, sym, ap, ◌∙◌, subst}
+use Rattle.std.proofs.Common.{◌≡◌, ◌∷◌, reverse, sym, ap, ◌∙◌, subst}
 use Rattle.el_base.proofs.Lists.{reverse_push}
-use Rattle.core_rules.specs.Signature.{Signature}
-use Rattle.core_rules.specs.Term.{Term}
-use Rattle.core_rules.specs.Heads.{Solutions}
-use Rattle.core_rules.specs.Bounded as B
 use Rattle.core_rules.specs.Bounded.{ConvOf}
 use Rattle.term_pool.specs.Pool.{tree}
 use Rattle.term_pool.specs.Growth.{Extends-trans}

@@ -1,10 +1,10 @@
-use Rattle.std.proofs.Common.{◌≡◌, ◌<◌, ◌^◌, ◌∷◌, ◌++◌, ℕ, Option, suc, length, map, reverse, sym, ap, ◌∙◌, subst, arith}
+use Rattle.std.proofs.Common.{◌≡◌, ◌<◌, ◌^◌, ◌∷◌, ◌++◌, suc, length, map, reverse, sym, ap, ◌∙◌, subst, arith}
 use Rattle.std.proofs.lemmas.Bool.{false≢true}
 use Rattle.std.proofs.lemmas.List.{length-reverse}
 use Rattle.core_rules.specs.Bounded.{AreSame}
 use Rattle.core_rules.specs.InScope.{IsAcyclic}
 use Rattle.term_pool.specs.Pool.{tree}
-use Rattle.term_pool.specs.Growth.{Extends-refl, Extends-trans, Extends-length}
+use Rattle.term_pool.specs.Growth.{Extends-refl, Extends-trans}
 use Rattle.core_terms.specs.Signature.{signature_in}
 use Rattle.core_terms.specs.Solutions.{solved_in, solved_in-stays}
 use Rattle.core_terms.proofs.SignatureGrowth.{Stands-extends}

@@ -1,11 +1,8 @@
-use Rattle.std.proofs.Common.{◌≡◌, ℕ, true, false, length, map, Option, Some, None, is_some, option_map, reverse, ap, sym, ◌∙◌}
-use Rattle.core_rules.specs.Term.{Term}
-use Rattle.core_rules.specs.Elimination.{Elim}
-use Rattle.core_rules.specs.Bounded.{Cut, last_field}
+use Rattle.std.proofs.Common.{Some, None, ap, sym, ◌∙◌}
+use Rattle.core_rules.specs.Bounded.{last_field}
 use Rattle.term_pool.specs.Pool.{tree, args}
 use Rattle.core_terms.specs.Signature.{signature_in}
-use Rattle.weak_head.specs.Elims.{AreArgs, spine_in}
-use Rattle.conversion.specs.Spine.{cut_in}
+use Rattle.weak_head.specs.Elims.{spine_in}
 use Rattle.conversion.specs.Form.{value_of}
 use Rattle.conversion.proofs.Cuts.{args_by, no_args_by, length_spine}
 use Rattle.conversion.proofs.Records.{kind_as, no_value}

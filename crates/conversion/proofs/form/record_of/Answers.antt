@@ -1,6 +1,7 @@
-use Rattle.std.proofs.Common.{sym, ◌∙◌, ap, arith, subst, Some, true, false}
+use Rattle.std.proofs.Common.{sym, ◌∙◌, ap, arith, Some, true, false}
 use Rattle.core_terms.specs.Signature.{fam_of}
-use Rattle.conversion.proofs.Records.{no_fam, value_past, value_later, value_stray, value_first}
+use Rattle.weak_head.proofs.Lookups.{no_fam}
+use Rattle.conversion.proofs.Records.{value_past, value_later, value_stray, value_first}
 use Rattle.conversion.proofs.form.record_of.Goals as goal
 
 pub returns-then-number-cons : goal.returns-then-number-cons

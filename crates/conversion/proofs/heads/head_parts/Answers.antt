@@ -1,8 +1,8 @@
-use Rattle.std.proofs.Common.{◌≡◌, [], length, map, false, option_map, ap, sym, ◌∙◌, subst}
+use Rattle.std.proofs.Common.{◌≡◌, length, false, option_map, ap, sym, ◌∙◌, subst}
 use Rattle.core_rules.specs.Bounded.{parts_or, same_heads}
-use Rattle.term_pool.specs.Pool.{tree, node_tree}
+use Rattle.term_pool.specs.Pool.{tree}
 use Rattle.weak_head.specs.Elims.{AllBelow, spine_in}
-use Rattle.conversion.specs.Part.{all_in, parts_in}
+use Rattle.conversion.specs.Part.{all_in}
 use Rattle.conversion.specs.Heads.{bare, bare_parts, is_same_head, rigid}
 use Rattle.conversion.proofs.Slices.{empty_of}
 use Rattle.conversion.proofs.HeadParts.{heads_apart, not_bare, all_bare, if_bare, made_parts}

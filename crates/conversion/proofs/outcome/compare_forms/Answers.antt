@@ -1,4 +1,4 @@
-use Rattle.std.proofs.Common.{◌≡◌, [], Some, None, ap, sym, ◌∙◌}
+use Rattle.std.proofs.Common.{[], ap, sym, ◌∙◌}
 use Rattle.core_rules.specs.Elimination.{elims}
 use Rattle.core_rules.specs.Bounded.{Decision, Now, No, parts_or}
 use Rattle.term_pool.specs.Pool.{tree}

@@ -1,12 +1,12 @@
-use Rattle.std.proofs.Common.{◌≡◌, ◌<◌, ℕ, Option, length, sym, ◌∙◌, subst, arith}
+use Rattle.std.proofs.Common.{ℕ, Option, sym, ◌∙◌, subst}
 use Rattle.core_rules.specs.InScope.{IsAcyclic}
 use Rattle.core_rules.specs.Bounded.{decide}
 use Rattle.term_pool.specs.Pool.{tree}
-use Rattle.term_pool.specs.Growth.{Extends-trans, Extends-tree, Extends-length}
+use Rattle.term_pool.specs.Growth.{Extends-trans}
 use Rattle.core_terms.specs.Signature.{signature_in}
 use Rattle.core_terms.specs.Solutions.{solved_in, solved_in-stays}
 use Rattle.core_terms.proofs.SignatureGrowth.{Stands-extends, signature_in-extends}
-use Rattle.conversion.specs.Outcome.{bounded_in, decision}
+use Rattle.conversion.specs.Outcome.{bounded_in}
 use Rattle.conversion.proofs.Reducing.{reduced_below, reduced_head, reduced_more, bounded_stays}
 use Rattle.conversion.proofs.Turning.{head_at}
 use Rattle.conversion.proofs.outcome.compare_heads.Goals as goal

@@ -2,7 +2,6 @@ use Rattle.std.proofs.Common.{subst}
 use Rattle.core_rules.specs.Elimination.{elims}
 use Rattle.weak_head.specs.Elims.{spine_in}
 use Rattle.term_pool.specs.Pool.{tree}
-use Rattle.core_terms.specs.Signature.{signature_in}
 use Rattle.conversion.specs.Arguments.{AreLike}
 use Rattle.conversion.proofs.parts.fields_like.Goals as goal
 

@@ -1,4 +1,4 @@
-use Rattle.std.proofs.Common.{◌≡◌, ◌≢◌, length, Some, None, ap, ap₂, sym, ◌∙◌, subst}
+use Rattle.std.proofs.Common.{length, ap, sym, ◌∙◌, subst}
 use Rattle.core_rules.specs.Elimination.{elims}
 use Rattle.core_rules.specs.Signature.{fields_of}
 use Rattle.core_rules.specs.Bounded.{argument_parts, term_parts}
@@ -6,7 +6,7 @@ use Rattle.term_pool.specs.Pool.{tree}
 use Rattle.core_terms.specs.Signature.{signature_in}
 use Rattle.weak_head.specs.Elims.{AllBelow, AreArgs, args_of, spine_in}
 use Rattle.conversion.proofs.Stays.{spine_more, spine_stays}
-use Rattle.conversion.proofs.Fields.{fields_at, apart_left, apart_right, value_left, value_right, like_none, like_some, below_some}
+use Rattle.conversion.proofs.Fields.{fields_at, apart_left, value_left, like_none, like_some, below_some}
 use Rattle.conversion.proofs.parts.left_parts.Goals as goal
 
 pub returns-in_default-clause-is : goal.returns-in_default-clause-is

@@ -1,10 +1,8 @@
-use Rattle.std.proofs.Common.{◌≡◌, ◌<◌, [], length, ap, sym, ◌∙◌, arith}
+use Rattle.std.proofs.Common.{◌<◌, [], length, ap, sym, ◌∙◌, arith}
 use Rattle.core_rules.specs.Elimination.{elims}
 use Rattle.core_rules.specs.Bounded.{Pair, argument_parts, parts_or, with_part}
 use Rattle.term_pool.specs.Pool.{tree}
 use Rattle.term_pool.specs.Growth.{Extends-trans, Extends-tree, Extends-length}
-use Rattle.weak_head.specs.Elims.{spine_in}
-use Rattle.conversion.specs.Part.{parts_in}
 use Rattle.conversion.specs.Spine.{cut_in}
 use Rattle.conversion.proofs.Stays.{spine_more, spine_stays}
 use Rattle.conversion.proofs.Cuts.{by_cuts_same}

@@ -1,4 +1,4 @@
-use Rattle.std.proofs.Common.{ℕ, ◌≤◌, ◌-◌, length, take}
+use Rattle.std.proofs.Common.{◌≤◌, ◌-◌, length, take}
 use Rattle.std.specs.List.{AllByRecursion}
 use Rattle.conversion.proofs.Cuts.{IsArgument}
 use Rattle.conversion.proofs.spine.last_field.Given as goal

@@ -3,7 +3,7 @@ use Rattle.weak_head.proofs.Lookups.{no_field, argument_none, argument_past, arg
 use Rattle.weak_head.proofs.lookup.place_of.Goals as goal
 
 pub returns-then-number-fields-clause-is : goal.returns-then-number-fields-clause-is
-returns-then-number-fields-clause-is c = λ p us l. argument_none p c.args.sig.now c.args.con c.args.field c.args.count us (no_field p c.args.sig.now c.args.field (omega (arith, c.if-number-fields.true, c.number.ensures, c.fields.ensures))) l
+returns-then-number-fields-clause-is c = λ p us l. argument_none p c.args.sig.now c.args.con c.args.field c.args.count us (no_field c.args.sig.now c.args.field (omega (arith, c.if-number-fields.true, c.number.ensures, c.fields.ensures))) l
 
 pub returns-then-at-count-clause-is : goal.returns-then-at-count-clause-is
 returns-then-at-count-clause-is c = λ p us l. argument_past p c.args.sig.now c.args.con c.args.field c.args.count c.field-fam.result.0 c.field-fam.result.1 us c.field-fam.ensures l (omega (arith, c.if-at-count.true))

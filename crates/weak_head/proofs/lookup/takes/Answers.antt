@@ -5,10 +5,10 @@ use Rattle.weak_head.proofs.Lookups.{no_con, no_fam, takes_none, takes_past, tak
 use Rattle.weak_head.proofs.lookup.takes.Goals as goal
 
 pub returns-then-number-cons : goal.returns-then-number-cons
-returns-then-number-cons c = λ p. takes_none p c.args.sig.now c.args.con c.args.count (no_con p c.args.sig.now c.args.con (omega (arith, c.if-number-cons.true, c.number.ensures, c.cons.ensures)))
+returns-then-number-cons c = λ p. takes_none p c.args.sig.now c.args.con c.args.count (no_con c.args.sig.now c.args.con (omega (arith, c.if-number-cons.true, c.number.ensures, c.cons.ensures)))
 
 pub returns-then-number-fams : goal.returns-then-number-fams
-returns-then-number-fams c = λ p. takes_past p c.args.sig.now c.args.con c.args.count c.con-fam.result.0 c.con-fam.result.1 c.con-fam.ensures (no_fam p c.args.sig.now c.con-fam.result.0 (omega (arith, c.if-number-fams.true, c.number-2.ensures, c.fams.ensures)))
+returns-then-number-fams c = λ p. takes_past p c.args.sig.now c.args.con c.args.count c.con-fam.result.0 c.con-fam.result.1 c.con-fam.ensures (no_fam c.args.sig.now c.con-fam.result.0 (omega (arith, c.if-number-fams.true, c.number-2.ensures, c.fams.ensures)))
 
 pub returns-then-at-cons : goal.returns-then-at-cons
 returns-then-at-cons c = λ p.
