@@ -28,17 +28,21 @@ CoveredClausesHold = (g : Signature Term) → SignatureInScope g any_meta → Ha
 abbrev pub DerivableClausesHold : Type 0
 DerivableClausesHold = (g : Signature Term) → Derivable g → (f : ℕ) → IsCovered g f → (i : ℕ) → ClauseHolds g f i
 
--- addition by its clauses: derivable, they are in scope, its tree follows them, and so each of them holds
+-- the signature is derivable, its clauses are in scope, the tree of f follows those of f, and so each of them holds
+abbrev pub HoldsByClauses : Signature Term → ℕ → Type 0
+HoldsByClauses g f = Derivable g × ClausesInScope g any_meta × IsCovered g f × ((i : ℕ) → ClauseHolds g f i)
+
+-- addition by its clauses
 abbrev pub AdditionClausesHold : Type 0
-AdditionClausesHold = Derivable addition_by_clauses × ClausesInScope addition_by_clauses any_meta × IsCovered addition_by_clauses 0 × ((i : ℕ) → ClauseHolds addition_by_clauses 0 i)
+AdditionClausesHold = HoldsByClauses addition_by_clauses 0
 
 -- what the second clause says of a call that fits
 abbrev pub PlusOfSuccessor : Type 0
 PlusOfSuccessor = (t u : Term) → Conv addition_by_clauses (plus_term (suc_term t) u) (suc_term (plus_term t u))
 
--- the first item of a vector by its clause: derivable, the clause is in scope, the tree follows it, and so it holds
+-- the first item of a vector by its clause
 abbrev pub VectorClausesHold : Type 0
-VectorClausesHold = Derivable first_by_clauses × ClausesInScope first_by_clauses any_meta × IsCovered first_by_clauses 0 × ((i : ℕ) → ClauseHolds first_by_clauses 0 i)
+VectorClausesHold = HoldsByClauses first_by_clauses 0
 
 -- a call at cons fits exactly where the implicit argument of cons has the value that its index forces, names apart
 abbrev pub ForcedIndexFits : Type 0
@@ -56,9 +60,9 @@ OtherFlagUnfit = (t u : Term) → Fits addition_by_clauses plus_covered [] (Arg 
 abbrev pub OtherFieldUnfit : Type 0
 OtherFieldUnfit = (g : Signature Term) (a b p : Term) (f : ℕ) → f ≢ 0 → f ≢ 1 → Fits g turn_tree [] (Arg Explicit a ∷ Arg Explicit b ∷ Arg Explicit p ∷ Field f ∷ []) → ⊥
 
--- pairs turned by a clause on a record that has eta: derivable, the clause is in scope, the tree follows it, and so it holds
+-- pairs turned by a clause on a record that has eta
 abbrev pub PairClausesHold : Type 0
-PairClausesHold = Derivable swap_by_clauses × ClausesInScope swap_by_clauses any_meta × IsCovered swap_by_clauses 0 × ((i : ℕ) → ClauseHolds swap_by_clauses 0 i)
+PairClausesHold = HoldsByClauses swap_by_clauses 0
 
 -- what the clause says of any pair, since the pattern is matched by projections
 abbrev pub SwapOfAny : Type 0

@@ -14,6 +14,7 @@ use Rattle.unify_rules.specs.Unifier.{Outcome, Solved, Conflict, Cycle, Stuck, O
 use Rattle.unify_rules.specs.Joined.{branch_of}
 use Rattle.unify_rules.specs.UnifierLaws.{EquationBelow}
 use Rattle.unify_rules.specs.Answered.{unified_of, EquationsBelow, UnifiesTo, in_scope, out_of_scope, AnswersUnify}
+use Rattle.unify_rules.proofs.Members.{Dec}
 use Rattle.unify_rules.proofs.Ends.{unify_stands}
 use Rattle.unify_rules.proofs.OneOutcome.{unify_one}
 use Rattle.unify_rules.proofs.Joining.{solved_joins}
@@ -21,19 +22,19 @@ use Rattle.unify_rules.proofs.WithSolutions.{by_steps, refutes}
 
 -- ---- scope can be told
 
-both : {A B : Type 0} → A ⊎ (A → ⊥) → B ⊎ (B → ⊥) → (A × B) ⊎ (A × B → ⊥)
+both : {A B : Type 0} → Dec A → Dec B → Dec (A × B)
 both (inl a) (inl b) = inl (a, b)
 both (inr n) y = inr (λ p. n p.0)
 both (inl a) (inr n) = inr (λ p. n p.1)
 
-below_or_not : (i n : ℕ) → (i < n) ⊎ (i < n → ⊥)
+below_or_not : (i n : ℕ) → Dec (i < n)
 below_or_not i n = below (cases_lt i n) where
-  below : (i < n) ⊎ (n ≤ i) → (i < n) ⊎ (i < n → ⊥)
+  below : (i < n) ⊎ (n ≤ i) → Dec (i < n)
   below (inl x) = inl x
   below (inr y) = inr (λ x. omega arith)
 
 mutual
-  vars_below_or : (n : ℕ) (t : Term) → VarsBelow n t ⊎ (VarsBelow n t → ⊥)
+  vars_below_or : (n : ℕ) (t : Term) → Dec (VarsBelow n t)
   vars_below_or n (Var i) = below_or_not i n
   vars_below_or n (Sort l) = inl tt
   vars_below_or n (Pi b x a t) = both (vars_below_or n a) (vars_below_or (n + 1) t)
@@ -45,11 +46,11 @@ mutual
   vars_below_or n (Proj f t) = vars_below_or n t
   vars_below_or n (Meta m ts) = all_below_or n ts
 
-  all_below_or : (n : ℕ) (ts : Terms) → AllVarsBelow n ts ⊎ (AllVarsBelow n ts → ⊥)
+  all_below_or : (n : ℕ) (ts : Terms) → Dec (AllVarsBelow n ts)
   all_below_or n End = inl tt
   all_below_or n (And t ts) = both (vars_below_or n t) (all_below_or n ts)
 
-below_or : (n : ℕ) (es : List Equation) → AllByRecursion (EquationBelow n) es ⊎ (AllByRecursion (EquationBelow n) es → ⊥)
+below_or : (n : ℕ) (es : List Equation) → Dec (AllByRecursion (EquationBelow n) es)
 below_or n [] = inl tt
 below_or n (e ∷ es) = both (both (vars_below_or n e.left) (vars_below_or n e.right)) (below_or n es)
 
@@ -104,7 +105,7 @@ module _ (g : Signature Term) (fuel depth : ℕ) (c : Context Term) (es : List E
   same_answer v w (out_of_scope n) (in_scope b x e) = absurd (n b)
   same_answer v w (out_of_scope n) (out_of_scope m) = refl
 
-  an_answer : EquationsBelow c es ⊎ (EquationsBelow c es → ⊥) → (v : Unified) × UnifiesTo g fuel depth c es v
+  an_answer : Dec (EquationsBelow c es) → (v : Unified) × UnifiesTo g fuel depth c es v
   an_answer (inl b) = let u = unify_stands g fuel depth (begin c es) in (unified_of c u.0, in_scope b u.2 refl)
   an_answer (inr n) = (StuckAt (Sort 0) (Sort 0), out_of_scope n)
 

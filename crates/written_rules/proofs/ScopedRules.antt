@@ -18,7 +18,7 @@ use Rattle.kernel_rules.specs.TermReading.{arguments_for}
 use Rattle.kernel_rules.proofs.Outcome.{one_gives}
 use Rattle.el_outside.specs.declared.place.Pos.{Pos}
 use Rattle.written_rules.specs.Asking.{Is, Comes, ◌>>=◌, gives}
-use Rattle.written_rules.specs.Rules.{Values, Checks, Types, binding, wanted, function_wanted, agrees, known, BinderMeaning, Typed, Untyped, typed_lambda, lambda, grouped, function_type, type_checked, ValueMeaning, AtRecord, first_of, record_at, record_or, record_shown, value_of, field_checked, fields_checked, record_value, names_checked, record_checked}
+use Rattle.written_rules.specs.Rules.{Values, Checks, Types, binding, wanted, function_wanted, agrees, known, BinderMeaning, Typed, Untyped, typed_lambda, lambda, grouped, function_type, type_checked, ValueMeaning, AtRecord, record_at, record_or, record_shown, value_of, field_checked, fields_checked, record_value, names_checked, record_checked}
 use Rattle.written_rules.specs.Laws.{ValuesInScope}
 use Rattle.written_rules.proofs.Comes.{comes_gives}
 use Rattle.written_rules.proofs.ScopedHeads.{GoodChecks, GoodTypes, binding-in_scope, wanted-in_scope, function-in_scope}
@@ -114,19 +114,15 @@ module _ (g : Signature Term) (sig : SignatureInScope g any_meta) (fuel depth : 
     under : ℕ
     fields : TelescopeInScope g any_meta under d.fields
 
-  first_is : (ks : List ℕ) (k : ℕ) → first_of ks ≡ Some k → slice_get ks 0 ≡ Some k
-  first_is [] k e = absurd cc
-  first_is (j ∷ ks) k e = e
-
   record_at-in_scope : (n d : ℕ) (es : List Elim) (o : AtRecord) → AllByRecursion (ElimInScope g any_meta n) es → record_at g d es ≡ Some o → RecordIn n o
   record_at-in_scope n d es o h e =
-      let a = then_some (fam_decl g d) (λ decl. option_and_then (λ k. cond decl.is_record (option_map (λ ps. record { con = k; params = ps; fields = decl.fields }) (arguments_for decl.params es)) None) (first_of (cons_of g d))) o e in
-      let b = then_some (first_of (cons_of g d)) (λ k. cond a.0.is_record (option_map (λ ps. record { con = k; params = ps; fields = a.0.fields }) (arguments_for a.0.params es)) None) o a.2 in
+      let a = then_some (fam_decl g d) (λ decl. option_and_then (λ k. cond decl.is_record (option_map (λ ps. record { con = k; params = ps; fields = decl.fields }) (arguments_for decl.params es)) None) (slice_get (cons_of g d) 0)) o e in
+      let b = then_some (slice_get (cons_of g d) 0) (λ k. cond a.0.is_record (option_map (λ ps. record { con = k; params = ps; fields = a.0.fields }) (arguments_for a.0.params es)) None) o a.2 in
       let k = mapped_some (arguments_for a.0.params es) (λ (ps : List Term). record { con = b.0; params = ps; fields = a.0.fields }) o (tested_some a.0.is_record (option_map (λ ps. record { con = b.0; params = ps; fields = a.0.fields }) (arguments_for a.0.params es)) o b.2) in
       let ps = arguments_each g n a.0.params es k.0 k.1 h in
       subst (RecordIn n) k.2 (record {
         params = ps.1;
-        con = con-in_scope g n b.0 (d, 0) a.0 k.0 (con_place_of g d 0 b.0 (first_is (cons_of g d) b.0 b.1)) a.1 ps.0 ps.1;
+        con = con-in_scope g n b.0 (d, 0) a.0 k.0 (con_place_of g d 0 b.0 b.1) a.1 ps.0 ps.1;
         under = length a.0.params;
         fields = fields-in_scope g any_meta sig d a.0 a.1;
       })

@@ -238,15 +238,11 @@ pub record AtRecord : Type 0 where
   pub params : List Term
   pub fields : Telescope Term
 
-abbrev pub first_of : List ℕ → Option ℕ
-first_of [] = None
-first_of (k ∷ ks) = Some k
-
 abbrev pub record_at : Signature Term → ℕ → List Elim → Option AtRecord
 record_at g d es =
     option_and_then (λ decl. option_and_then (λ k.
     cond decl.is_record (option_map (λ ps. record { con = k; params = ps; fields = decl.fields }) (arguments_for decl.params es)) None)
-    (first_of (cons_of g d))) (fam_decl g d)
+    (slice_get (cons_of g d) 0)) (fam_decl g d)
 
 abbrev pub record_or : Pos → Term → Option AtRecord → Outcome Refusal AtRecord
 record_or p t None = Refuses (at p (NotARecord t))

@@ -1,4 +1,4 @@
--- A function with its clauses: derivable where it is without them, and covered where the declared tree follows them.
+-- A function with its clauses: derivable where it is without them, covered where the declared tree follows them, and then they hold.
 use Rattle.std.specs.Prelude.{◌≡◌, ℕ, List, [], ◌∷◌, ◌++◌, map, Some}
 use Rattle.std.proofs.Common.{sym, ◌∙◌, subst as transport}
 use Rattle.core_rules.specs.Term.{Term}
@@ -8,9 +8,13 @@ use Rattle.core_rules.specs.Derivable.{Derivable, Good}
 use Rattle.core_rules.specs.Laws.{ClausesHaveNoMeta}
 use Rattle.match_rules.specs.Matching.{clause_of}
 use Rattle.match_rules.specs.Covering.{Covers}
-use Rattle.match_rules.specs.Laws.{IsCovered}
+use Rattle.core_rules.specs.InScope.{ClausesInScope, any_meta}
+use Rattle.match_rules.specs.Laws.{IsCovered, HoldsByClauses}
 use Rattle.core_rules.proofs.Signature.Growth.{derivable-extended}
 use Rattle.core_rules.proofs.Typing.NoMeta.{good-no_meta}
+use Rattle.core_rules.proofs.Trees.Scoped.{derivable-in_scope}
+use Rattle.core_rules.proofs.Trees.Regular.{derivable-typed}
+use Rattle.match_rules.proofs.Cover.First.{clause_holds}
 
 -- its tree alone is typed
 pub with_clauses : (g : Signature Term) (x : ℕ) (a : Term) (qs rs : List (CoreClause Term)) (T : Tree Term) → Derivable g → Good g (Function x a qs T) → ClausesHaveNoMeta (Function x a rs T) → Derivable (g ++ Function x a rs T ∷ [])
@@ -23,3 +27,6 @@ pub covered_as : (g : Signature Term) (f x : ℕ) (a : Term) (qs : List (CoreCla
 covered_as g f x a qs T d c y b rs S e =
     let p = same_function (sym d ∙ e) in
     transport (λ S. Covers g (map (clause_of g) rs) 0 [] S) p.1 (transport (λ qs. Covers g (map (clause_of g) qs) 0 [] T) p.0 c)
+
+pub holds_by_clauses : (g : Signature Term) (f : ℕ) → Derivable g → ClausesInScope g any_meta → IsCovered g f → HoldsByClauses g f
+holds_by_clauses g f d s v = (d, s, v, λ i. clause_holds g (derivable-in_scope g d) (derivable-typed g d) f v i)

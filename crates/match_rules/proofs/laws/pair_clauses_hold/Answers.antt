@@ -1,10 +1,8 @@
 -- The derivation, the covering, and the law.
 use Rattle.match_rules.specs.PairClauses.{swap_by_clauses}
-use Rattle.core_rules.proofs.Trees.Scoped.{derivable-in_scope}
-use Rattle.core_rules.proofs.Trees.Regular.{derivable-typed}
-use Rattle.match_rules.proofs.Cover.First.{clause_holds}
+use Rattle.match_rules.proofs.Cover.WithClauses.{holds_by_clauses}
 use Rattle.match_rules.proofs.Cover.Pairs.{derivation, in_scope, is_covered}
 use Rattle.match_rules.proofs.laws.pair_clauses_hold.Goals as goal
 
 pub returns : goal.returns
-returns c = (derivation, in_scope, is_covered, λ i. clause_holds swap_by_clauses (derivable-in_scope swap_by_clauses derivation) (derivable-typed swap_by_clauses derivation) 0 is_covered i)
+returns c = holds_by_clauses swap_by_clauses 0 derivation in_scope is_covered
