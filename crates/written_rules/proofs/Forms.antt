@@ -14,7 +14,7 @@ use Rattle.resolved_tree.specs.declared.resolved.ResolvedBinder.{ResolvedBinder,
 use Rattle.resolved_tree.specs.declared.resolved.ResolvedBinder.TheVariants as rb
 use Rattle.resolved_tree.specs.declared.resolved.ResolvedValue.{ResolvedValue, fold_out-ResolvedValue, out-ResolvedValue, map-ResolvedValue}
 use Rattle.resolved_tree.specs.declared.resolved.ResolvedArg.TheOpen.{ResolvedExpr-F, ResolvedArg-F, ResolvedBinder-F}
-use Rattle.written_rules.specs.Needs.{Plain, Braces, Named, Field}
+use Rattle.need_rules.specs.Needs.{Plain, Braces, Named, Field}
 use Rattle.written_rules.specs.Rules.{BinderMeaning, Typed, Untyped, VariableName, DefName, FamilyName, ConName, ArgMeaning, ValueMeaning, known, lambda, grouped, function_type, record_checked, left_out}
 use Rattle.written_rules.specs.Expressions.{ExprMeaning, a_name, a_type, a_value, an_application, no_name, ids, expr_step, arg_step, binder_step, value_step, expr_meaning, arg_meaning, binder_meaning, value_meaning}
 

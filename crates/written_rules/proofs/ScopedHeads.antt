@@ -13,11 +13,11 @@ use Rattle.core_rules.proofs.Scope.Changed.{shift-in_scope}
 use Rattle.core_rules.proofs.Scope.HeadForms.{heads-in_scope}
 use Rattle.kernel_rules.specs.Outcome.{Outcome, Gives, Refuses}
 use Rattle.kernel_rules.proofs.Outcome.{one_gives}
+use Rattle.need_rules.specs.Needs.{Need, Explicit as GivenPlain, Given, Insert, Project, End, NotAFunction, NotARecord, NoSuchName, Waits, need_at_end}
 use Rattle.el_outside.specs.declared.place.Pos.{Pos}
 use Rattle.written_rules.specs.Refusals.{Refusal, at, CannotInfer}
 use Rattle.written_rules.specs.Asking.{Is, Comes}
-use Rattle.written_rules.specs.Needs.{is_implicit}
-use Rattle.written_rules.specs.Rules.{Values, Checks, Types, binding, raised, within, shows, uninserted, wanted, function_shown, function_wanted}
+use Rattle.written_rules.specs.Rules.{Values, Checks, Types, binding, raised, within, shows, not_inserted, uninserted, wanted, function_shown, function_wanted}
 use Rattle.written_rules.specs.Laws.{ValuesInScope}
 use Rattle.written_rules.proofs.Comes.{comes_gives}
 
@@ -50,12 +50,19 @@ module _ (g : Signature Term) (fuel depth : ℕ) where
     pub shown-in_scope : (n : ℕ) (p : Pos) (a : Term) (w : Answer) → InScope g any_meta n a → Comes g fuel depth (shows p a) (Gives w) → AnswerIn n w
     shown-in_scope n p a w h c = by_bound n p a w c.0 h c.1 c.2
 
-    same_answer : (b : Bool) (p : Pos) (v w : Answer) → ◌≡◌ {A = Outcome Refusal Answer} (Gives v) (cond b (Refuses (at p CannotInfer)) (Gives w)) → v ≡ w
-    same_answer true p v w e = absurd cc
-    same_answer false p v w e = one_gives e
+    same_answer : (d : Need Checks) (p : Pos) (v w : Answer) → Gives v ≡ not_inserted p w d → v ≡ w
+    same_answer (Insert a b) p v w e = absurd cc
+    same_answer (GivenPlain m a b) p v w e = one_gives e
+    same_answer (Given m a b) p v w e = one_gives e
+    same_answer (Project f) p v w e = one_gives e
+    same_answer End p v w e = one_gives e
+    same_answer (NotAFunction t) p v w e = one_gives e
+    same_answer (NotARecord t) p v w e = one_gives e
+    same_answer NoSuchName p v w e = one_gives e
+    same_answer (Waits m) p v w e = one_gives e
 
     pub uninserted-same : (p : Pos) (v w : Answer) → Gives v ≡ uninserted p w → v ≡ w
-    uninserted-same p v w e = same_answer (is_implicit w) p v w e
+    uninserted-same p v w e = same_answer (need_at_end w) p v w e
 
     pub wanted-in_scope : (n : ℕ) (p : Pos) (a : Term) (w : Answer) → InScope g any_meta n a → Comes g fuel depth (wanted p a) (Gives w) → AnswerIn n w
     wanted-in_scope n p a w h c =

@@ -21,8 +21,8 @@ use Rattle.kernel_rules.proofs.Outcome.{one_gives}
 use Rattle.kernel_rules.proofs.Sound.{arguments-are}
 use Rattle.el_outside.specs.declared.place.Pos.{Pos}
 use Rattle.written_rules.specs.Asking.{Is, Comes, ◌>>=◌, gives}
-use Rattle.written_rules.specs.Needs.{Next, Plain, Braces, Named, Need, Given, Insert, OwnField, own_field, project, misplaced, need}
-use Rattle.written_rules.specs.Needs as needs
+use Rattle.need_rules.specs.Needs.{Next, Plain, Braces, Named, Need, Given, Insert, OwnField, own_field, project, misplaced, need}
+use Rattle.need_rules.specs.Needs as needs
 use Rattle.written_rules.specs.Rules.{Values, Checks, Found, Name, VariableName, DefName, FamilyName, ConName, ArgMeaning, params_of, con_found, con_start, start, started, applied, projected, one_argument, spine, against, as_type, shows, uninserted, sort_shown, wanted, agrees, name_checked, name_typed}
 use Rattle.written_rules.specs.Laws.{ValuesInScope}
 use Rattle.written_rules.proofs.Comes.{comes_gives}
@@ -177,7 +177,7 @@ module _ (g : Signature Term) where
         no_misplaced t (needs.Field f) o c = cc
 
         -- by whether the name is the binder's
-        named-in_scope : (w : Bool) (x : ℕ) (m : Checks) (a b : Term) (o : Found) → GoodChecks g fuel depth m → In n a → In (n + 1) b → at_argument (Named x m) (cond w (Given m a b) Insert) o → FoundIn n o
+        named-in_scope : (w : Bool) (x : ℕ) (m : Checks) (a b : Term) (o : Found) → GoodChecks g fuel depth m → In n a → In (n + 1) b → at_argument (Named x m) (cond w (Given m a b) (Insert a b)) o → FoundIn n o
         named-in_scope true x m a b o k h j c = applied-in_scope Implicit m a b o k h j c
         named-in_scope false x m a b o k h j c = absurd cc
 

@@ -14,7 +14,7 @@ use Rattle.resolved_tree.specs.declared.resolved.ResolvedArg.TheOpen.{ResolvedEx
 use Rattle.resolved_tree.specs.declared.resolved.ResolvedArg.TheFolds.{fold-ResolvedExpr, fold-ResolvedArg, fold-ResolvedBinder, fold-ResolvedValue}
 use Rattle.written_rules.specs.Refusals.{Refusal}
 use Rattle.written_rules.specs.Asking.{Comes}
-use Rattle.written_rules.specs.Needs.{Plain, Braces, Named, Field}
+use Rattle.need_rules.specs.Needs.{Plain, Braces, Named, Field}
 use Rattle.written_rules.specs.Rules.{Values, Checks, Types, BinderMeaning, Typed, Untyped, Name, VariableName, DefName, FamilyName, ConName, ArgMeaning, ValueMeaning, known, lambda, grouped, function_type, type_checked, name_checked, name_typed, record_checked, other_checked, no_type, left_out, dot_checked}
 
 -- an expression: where it stands, the name that it is, if it is one, and how it is read at a type and as a type

@@ -1,6 +1,5 @@
 pub mod Asking
 pub mod Refusals
-pub mod Needs
 pub mod Rules
 pub mod Expressions
 pub mod Laws

@@ -12,11 +12,11 @@ use Rattle.core_rules.specs.Bounded.{Verdict, Yes, No, WaitsFor}
 use Rattle.core_rules.specs.Bounded as verdict
 use Rattle.kernel_rules.specs.Outcome.{Outcome, Gives, Refuses}
 use Rattle.kernel_rules.specs.TermReading.{arguments_for}
+use Rattle.need_rules.specs.Needs.{Next, Need, OwnField, need, need_at_end}
+use Rattle.need_rules.specs.Needs as needs
 use Rattle.el_outside.specs.declared.place.Pos.{Pos}
 use Rattle.written_rules.specs.Refusals.{Refusal, Kind, Mismatch, DotWrong, NotAFunction, NotARecord, NotAType, NoSuchName, CannotInfer, BadField, OutOfFuel, OutOfDepth, at}
 use Rattle.written_rules.specs.Asking.{Is, AsksHead, AsksVerdict, Reads, ◌>>=◌, gives}
-use Rattle.written_rules.specs.Needs.{Next, Need, OwnField, need, is_implicit}
-use Rattle.written_rules.specs.Needs as needs
 
 -- ---- where an expression stands
 
@@ -55,8 +55,12 @@ abbrev pub shows : Pos → Term → Reads Answer
 shows p a = AsksHead a (λ b. Is (within p b))
 
 -- at an implicit function type something would be inserted, which would stand at p
+abbrev pub not_inserted : Pos → Answer → Need Checks → Outcome Refusal Answer
+not_inserted p w (needs.Insert a b) = Refuses (at p CannotInfer)
+not_inserted p w d = Gives w
+
 abbrev pub uninserted : Pos → Answer → Outcome Refusal Answer
-uninserted p w = cond (is_implicit w) (Refuses (at p CannotInfer)) (Gives w)
+uninserted p w = not_inserted p w (need_at_end w)
 
 -- the head form of a type at which an expression is checked that is neither a hole, `_` nor a lambda in braces
 abbrev pub wanted : Pos → Term → Reads Answer
@@ -199,8 +203,9 @@ projected g s is = record { term = Proj is.field s.term; ty = under (reverse (is
 abbrev pub one_argument : Signature Term → Pos → Pos → Values → Found → ArgMeaning → Need Checks → Reads Found
 one_argument g p q vs s x (needs.Explicit e a b) = e vs a >>= (λ u. gives (applied Explicit s u b))
 one_argument g p q vs s x (needs.Given e a b) = e vs a >>= (λ u. gives (applied Implicit s u b))
-one_argument g p q vs s x needs.Insert = refused q CannotInfer
+one_argument g p q vs s x (needs.Insert a b) = refused q CannotInfer
 one_argument g p q vs s x (needs.Project is) = gives (projected g s is)
+one_argument g p q vs s x needs.End = gives s
 one_argument g p q vs s x (needs.NotAFunction t) = refused x.pos (NotAFunction t)
 one_argument g p q vs s x (needs.NotARecord t) = refused x.pos (NotARecord t)
 one_argument g p q vs s x needs.NoSuchName = refused x.pos NoSuchName

@@ -1,13 +1,15 @@
--- What a type needs of the next argument of a spine.
-use Rattle.std.specs.Prelude.{ℕ, Bool, true, false, eqb, cond, List, slice_get, Option, Some, None, option_map, option_and_then}
+-- What a type needs of the next argument of a spine, and where no argument is left.
+use Rattle.std.specs.Prelude.{◌≡◌, ℕ, eqb, cond, List, slice_get, Option, Some, None, option_map, option_and_then}
 use Rattle.core_rules.specs.declared.Flag.TheVariants as flag
 use Rattle.core_rules.specs.Term.{Term, Pi, Fam}
+use Rattle.core_rules.specs.InScope.{IsAcyclic}
 use Rattle.core_rules.specs.Signature.{Signature, fam_decl, field_place}
 use Rattle.core_rules.specs.Elimination.{Elim, elims}
-use Rattle.core_rules.specs.Heads.{Answer, Form, Blocked}
+use Rattle.core_rules.specs.Heads.{Solutions, Answer, Form, Blocked, Bounded, Within, Out, HeadOf}
+use Rattle.core_rules.specs.BoundedLaws.{ExactlyOne}
 use Rattle.kernel_rules.specs.TermReading.{arguments_for}
 
--- the next argument, which holds an E unless it is a projection: `e`, `{e}`, `{x = e}`, `.f`
+-- an argument, which holds an E unless it is a projection: `e`, `{e}`, `{x = e}`, `.f`
 pub data Next (E : Type 0) : Type 0 where
   Plain : E → Next E
   Braces : E → Next E
@@ -23,13 +25,15 @@ pub record OwnField : Type 0 where
   pub params : List Term
   pub ty : Term
 
--- Explicit and Given: the argument is checked at the domain, and the codomain stands under its variable. Insert: an implicit argument
--- stands before it that the source does not write. Waits: the type's head form waits for a metavariable
+-- Explicit and Given: the argument is checked at the domain, and the codomain stands under its variable. Insert: an implicit argument of
+-- this domain and codomain stands first, which the source does not write. End: no argument is left, and none is inserted. Waits: the
+-- type's head form waits for a metavariable
 pub data Need (E : Type 0) : Type 0 where
   Explicit : E → Term → Term → Need E
   Given : E → Term → Term → Need E
-  Insert : Need E
+  Insert : Term → Term → Need E
   Project : OwnField → Need E
+  End : Need E
   NotAFunction : Term → Need E
   NotARecord : Term → Need E
   NoSuchName : Need E
@@ -59,10 +63,10 @@ explicit_need t a b x = misplaced t x
 
 -- by the name of the binder
 abbrev pub implicit_need : {E : Type 0} → ℕ → Term → Term → Next E → Need E
-implicit_need x a b (Plain e) = Insert
+implicit_need x a b (Plain e) = Insert a b
 implicit_need x a b (Braces e) = Given e a b
-implicit_need x a b (Named y e) = cond (eqb y x) (Given e a b) Insert
-implicit_need x a b (Field f) = Insert
+implicit_need x a b (Named y e) = cond (eqb y x) (Given e a b) (Insert a b)
+implicit_need x a b (Field f) = Insert a b
 
 abbrev pub family_need : {E : Type 0} → Signature Term → ℕ → List Elim → Next E → Need E
 family_need g d es (Field f) = project (elims (Fam d) es) (own_field g d es f)
@@ -77,6 +81,26 @@ need g (Form h es) n = misplaced (elims h es) n
 need g (Blocked m h es) n = Waits m
 
 -- where none is left: at an implicit function type an argument is inserted
-abbrev pub is_implicit : Answer → Bool
-is_implicit (Form (Pi flag.Implicit x a b) List.[]) = true
-is_implicit w = false
+abbrev pub need_at_end : {E : Type 0} → Answer → Need E
+need_at_end (Form (Pi flag.Implicit x a b) List.[]) = Insert a b
+need_at_end (Form h es) = End
+need_at_end (Blocked m h es) = Waits m
+
+abbrev pub need_of : {E : Type 0} → Signature Term → Answer → Option (Next E) → Need E
+need_of g w None = need_at_end w
+need_of g w (Some n) = need g w n
+
+-- none where the fuel does not suffice
+abbrev pub need_within : {E : Type 0} → Signature Term → Option (Next E) → Bounded → Option (Need E)
+need_within g n (Within w k) = Some (need_of g w n)
+need_within g n Out = None
+
+-- what a spine of type t needs for what stands next, if anything does; none where the fuel does not suffice for the head form of t
+pub record NeedOf {E : Type 0} (g : Signature Term) (s : Solutions) (t : Term) (next : Option (Next E)) (fuel : ℕ) (r : Option (Need E)) : Type 0 where
+  pub head : Bounded
+  pub is : HeadOf g s t fuel head
+  pub need : r ≡ need_within g next head
+
+-- there is exactly one answer, whichever metavariables are solved and whatever arguments hold
+abbrev pub ExactlyOneNeed : Type 0 → Type 0
+ExactlyOneNeed E = (g : Signature Term) (s : Solutions) (t : Term) (next : Option (Next E)) (fuel : ℕ) → IsAcyclic s → ExactlyOne (NeedOf g s t next fuel)
