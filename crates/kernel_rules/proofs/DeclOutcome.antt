@@ -60,7 +60,7 @@ module _ (g : Signature Term) where
   vars-in k zero n h = tt
   vars-in k (suc m) n h = (omega (arith, h), vars-in k m n (omega (arith, h)))
 
-  con_end-in : (n : ℕ) (d : FamDecl Term) (k : ConDecl Term) → n < length (fams g) → ConInScope g any_meta (length d.params) k → InScope g any_meta (length d.params + length k.args) (con_end n d k)
+  pub con_end-in : (n : ℕ) (d : FamDecl Term) (k : ConDecl Term) → n < length (fams g) → ConInScope g any_meta (length d.params) k → InScope g any_meta (length d.params + length k.args) (con_end n d k)
   con_end-in n d k b s =
       let m : ℕ = length d.params + length k.args in
       elims-in m (Fam n) (args d.params (vars_from (length k.args) (length d.params)) ++ args d.indices k.indices) b

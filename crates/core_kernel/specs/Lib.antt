@@ -1,0 +1,5 @@
+pub mod Answers
+pub mod Checker
+pub mod Spine
+pub mod Family
+pub mod Record
