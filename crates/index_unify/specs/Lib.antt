@@ -1,0 +1,9 @@
+pub mod Unified
+pub mod State
+pub mod Queue
+pub mod Walk
+pub mod Dependence
+pub mod Constructors
+pub mod Rules
+pub mod Order
+pub mod Renaming
