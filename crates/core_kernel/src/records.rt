@@ -17,9 +17,7 @@ ghost use Rattle.core_kernel.specs.Record.{AnswersParams, params_or};
 
 use crate::checker::Checker;
 use crate::error::KernelError;
-use core_terms::{
-    CoreDecl, FamId, FieldId, NoMemory, NoSolutions, Node, TermId, TermPool, under,
-};
+use core_terms::{CoreDecl, FamId, FieldId, NoMemory, NoSolutions, Node, TermId, TermPool, under};
 use family_args::params_for;
 use std::alloc::Global;
 use weak_head::{Applied, Reduced, applied, reduce};
