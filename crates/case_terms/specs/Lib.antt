@@ -1,2 +1,4 @@
 pub mod Standing
 pub mod Solved
+pub mod Families
+pub mod Known

@@ -3,6 +3,7 @@ ghost use Rattle.core_terms.specs.Signature.{Stands};
 ghost use Rattle.case_terms.specs.Standing.{ConIn, DeclIn, EntriesIn, TreeIn};
 
 use crate::fault::Fault;
+use crate::scope::is_declared_in;
 use crate::terms::is_in;
 use crate::trees::{absurd, cosplit, goes, intro, leaf, record_split, refuted, split};
 use crate::words::term;
@@ -131,6 +132,24 @@ fn families(alloc: Global, pool: &TermPool, ty: TermId) -> Result<Signature, Fau
     declare(pool, &mut sig, record(alloc, pool, &[entry, entry], true)?)?;
     declare(pool, &mut sig, record(alloc, pool, &[], false)?)?;
     declare(pool, &mut sig, record(alloc, pool, &[], true)?)?;
+    Ok(sig)
+}
+
+/// The signature of these declarations, whose terms stand in the pool.
+pub fn signature_of(
+    alloc: Global,
+    pool: &TermPool,
+    decls: Vec<CoreDecl>,
+) -> Result<Signature, Fault>
+    ensures { IfOk result (Stands pool.now) }
+{
+    let mut sig = Signature::new(alloc)?;
+    for decl in decls {
+        if !is_declared_in(pool, &decl) {
+            return Err(Fault::Stray);
+        }
+        declare(pool, &mut sig, decl)?;
+    }
     Ok(sig)
 }
 

@@ -1,4 +1,5 @@
 ghost use Rattle.std.specs.Prelude.{◌↔◌, ◌<◌, length, IsTrue};
+ghost use Rattle.std.specs.List.{AllByRecursion};
 
 use crate::fault::Fault;
 use core_rules::Flag;
@@ -18,6 +19,20 @@ pub fn is_in(pool: &TermPool, t: TermId) -> bool
     (t.number() as usize) < pool.len()
 }
 
+/// Whether all of them stand there.
+pub fn are_in(pool: &TermPool, ids: &[TermId]) -> bool
+    ensures { IsTrue result → AllByRecursion (λ t. t < length pool.now.trees) ids.now }
+{
+    let mut left = ids;
+    while let [t, more @ ..] = left {
+        if !is_in(pool, *t) {
+            return false;
+        }
+        left = more;
+    }
+    true
+}
+
 pub fn variable(pool: &mut TermPool, index: u32) -> Result<TermId, Fault> {
     Ok(pool.add(Node::Var(index))?)
 }
@@ -34,21 +49,13 @@ pub fn definition(pool: &mut TermPool, number: u32) -> Result<TermId, Fault> {
     Ok(pool.add(Node::Def(DefId::new(number)))?)
 }
 
-/// A constructor without parameters.
+/// A constructor at parameters.
 #[tactic(auto, using(term_pool::specs::Growth::growth))]
-pub fn constructor(pool: &mut TermPool, number: u32) -> Result<TermId, Fault> {
-    let params = pool.add_args(&[])?;
-    let con = ConId::new(number);
-    Ok(pool.add(Node::Con { con, params })?)
-}
-
-/// A constructor with one parameter.
-#[tactic(auto, using(term_pool::specs::Growth::growth))]
-pub fn constructor_at(pool: &mut TermPool, number: u32, param: TermId) -> Result<TermId, Fault> {
-    if !is_in(pool, param) {
+pub fn constructor(pool: &mut TermPool, number: u32, params: &[TermId]) -> Result<TermId, Fault> {
+    if !are_in(pool, params) {
         return Err(Fault::Stray);
     }
-    let params = pool.add_args(&[param])?;
+    let params = pool.add_args(params)?;
     let con = ConId::new(number);
     Ok(pool.add(Node::Con { con, params })?)
 }
@@ -129,13 +136,42 @@ pub fn lambda(
     })?)
 }
 
-/// The body under so many explicit lambdas over a sort.
-pub fn lambdas(pool: &mut TermPool, body: TermId, times: u32) -> Result<TermId, Fault> {
-    let dom = sort(pool, 0)?;
-    let (flag, name) = (Flag::Explicit, 0);
+/// An explicit binder without a name.
+fn plain() -> Binder {
+    Binder {
+        flag: Flag::Explicit,
+        name: 0,
+    }
+}
+
+/// The body under so many explicit lambdas.
+pub fn lambdas(
+    pool: &mut TermPool,
+    dom: TermId,
+    body: TermId,
+    times: u32,
+) -> Result<TermId, Fault> {
     let mut t = body;
     for _ in 0..times {
-        t = lambda(pool, Binder { flag, name }, dom, t)?;
+        t = lambda(pool, plain(), dom, t)?;
+    }
+    Ok(t)
+}
+
+/// The explicit function type that takes so many arguments.
+pub fn pis(pool: &mut TermPool, dom: TermId, cod: TermId, times: u32) -> Result<TermId, Fault> {
+    let mut t = cod;
+    for _ in 0..times {
+        t = pi(pool, plain(), dom, t)?;
+    }
+    Ok(t)
+}
+
+/// The function at the argument so many times over.
+pub fn spine(pool: &mut TermPool, fun: TermId, arg: TermId, times: u32) -> Result<TermId, Fault> {
+    let mut t = fun;
+    for _ in 0..times {
+        t = apply(pool, Flag::Explicit, t, arg)?;
     }
     Ok(t)
 }
