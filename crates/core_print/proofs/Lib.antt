@@ -1,0 +1,12 @@
+pub mod Primes
+pub mod Marking
+pub mod Walking
+pub mod Paging
+pub mod Differing
+pub mod Viewing
+pub mod Printing
+pub mod Collecting
+pub mod Contexts
+pub mod Choosing
+pub mod Writing
+pub mod LeftTexts

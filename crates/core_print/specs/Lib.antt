@@ -1,0 +1,11 @@
+pub mod Apart
+pub mod Labels
+pub mod Names
+pub mod Printed
+pub mod Views
+pub mod Walks
+pub mod Pages
+pub mod Examples
+pub mod Variables
+pub mod ContextText
+pub mod LeftSide
