@@ -19,7 +19,8 @@ use Rattle.kernel_rules.specs.Outcome.{Outcome, Gives, Refuses, Then, goes_on, s
 use Rattle.kernel_rules.specs.Refusals.{Refusal}
 use Rattle.core_kernel.specs.Answers.{RefusedBy, Answers}
 use Rattle.core_kernel.specs.Checker.{ShowsParams, context_in, IsReady, IsTerm, IsBody, Grows, Keeps, Over, over, term_of, signature_of, context_of, Infers, HasLevel, Checks, ShowsParts, with_entry, entry_of}
-use Rattle.core_kernel.proofs.Contexts.{context_in-extends, context_in-push, entries-weaker}
+use Rattle.core_kernel.proofs.Contexts.{context_in-extends, context_in-push}
+use Rattle.declared_types.proofs.Grown.{entries-weaker}
 
 pub Grows-refl : (x : Checker) → Grows x x
 Grows-refl x = record { same_reference = refl; extends = Extends-refl x.pool.now }

@@ -23,7 +23,8 @@ use Rattle.core_kernel.specs.Answers.{AnswersFamily, RefusedBy, in_family}
 use Rattle.core_kernel.specs.Checker.{Grows, HasLevel, IsReady, IsTerm, Over, context_in, context_of, over, signature_of, term_of}
 use Rattle.core_kernel.specs.Family.{Enters, Levels, ReadsCon}
 use Rattle.core_kernel.proofs.Checking.{refused-weaker}
-use Rattle.core_kernel.proofs.Contexts.{con-stays, context_in-extends, entries-weaker, fam-stays, length-fams_in, telescope-stays}
+use Rattle.core_kernel.proofs.Contexts.{context_in-extends}
+use Rattle.declared_types.proofs.Grown.{con-stays, entries-weaker, fam-stays, length-fams_in, telescope-stays}
 use Rattle.core_kernel.proofs.Entering.{context_in-append, signature_grown}
 use Rattle.core_kernel.proofs.Families.{refused_term}
 use Rattle.core_kernel.proofs.Levels.{con-args, con-big, con-end, con-good, con-shape}

@@ -15,7 +15,7 @@ use Rattle.core_kernel.specs.Answers.{AnswersFamily}
 use Rattle.core_kernel.specs.Checker.{Grows, IsReady, Keeps, Over, over, signature_of, term_of}
 use Rattle.core_kernel.specs.Family.{ReadsCon, ReadsCons}
 use Rattle.core_kernel.proofs.Checking.{here, signature_kept}
-use Rattle.core_kernel.proofs.Contexts.{con-stays, con-within, fam-stays, fam-within}
+use Rattle.declared_types.proofs.Grown.{con-stays, con-within, fam-stays, fam-within}
 use Rattle.core_kernel.proofs.Families.{refused_part}
 
 -- y is the checker before con, the first of the constructors that are left

@@ -17,7 +17,8 @@ use Rattle.core_kernel.specs.declared.error.KernelError.{KernelError}
 use Rattle.core_kernel.specs.Answers.{RefusedBy}
 use Rattle.core_kernel.specs.Checker.{context_in, IsReady, IsTerm, Grows, Over, over, term_of, signature_of, context_of, entry_of, with_entry, HasLevel}
 use Rattle.core_kernel.specs.Family.{Levels}
-use Rattle.core_kernel.proofs.Contexts.{context_in-extends, context_in-push, entries-weaker}
+use Rattle.core_kernel.proofs.Contexts.{context_in-extends, context_in-push}
+use Rattle.declared_types.proofs.Grown.{entries-weaker}
 use Rattle.core_kernel.proofs.Checking.{refused-weaker}
 use Rattle.core_kernel.proofs.Levels.{prefixed, prefixed-none, prefixed-one, levels-next, levels-refused}
 

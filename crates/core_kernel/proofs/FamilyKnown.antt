@@ -20,7 +20,7 @@ use Rattle.core_kernel.specs.declared.error.FamilyError.{FamilyError}
 use Rattle.core_kernel.specs.Answers.{AnswersFamily, RefusedBy, in_family}
 use Rattle.core_kernel.specs.Family.{TelescopesOf}
 use Rattle.core_kernel.proofs.Checking.{refused-weaker}
-use Rattle.core_kernel.proofs.Contexts.{con-stays, fam-stays, fam-within, length-fams_in}
+use Rattle.declared_types.proofs.Grown.{con-stays, fam-stays, fam-within, length-fams_in}
 use Rattle.core_kernel.proofs.Families.{refused_part, refused_term}
 use Rattle.core_kernel.proofs.Levels.{family-after, family-refused}
 

@@ -2,22 +2,14 @@
 use Rattle.std.proofs.Common.{max, ◌≡◌, ◌<◌, ◌≤◌, ℕ, zero, suc, sym, ap, subst, ◌∙◌, arith, List, [], ◌∷◌, length, map}
 use Rattle.std.specs.Prelude.{slice_get, Some, reverse}
 use Rattle.std.specs.List.{AllByRecursion}
-use Rattle.std.proofs.lemmas.List.{reverse-reverse, length-reverse}
+use Rattle.std.proofs.lemmas.List.{reverse-reverse}
 use Rattle.el_base.proofs.Lists.{map-reverse}
 use Rattle.el_base.proofs.Throughout.{all-from_reversed}
-use Rattle.core_rules.specs.Term.{Term, Terms, from_list, to_list, env_of, size, size_all}
+use Rattle.core_rules.specs.Term.{Term, Terms, from_list, size, size_all}
 use Rattle.core_rules.specs.Signature.{Signature}
 use Rattle.core_rules.specs.InScope.{InScope, AllInScope, any_meta}
-use Rattle.core_terms.proofs.Instances.{to_from}
 use Rattle.core_kernel.specs.declared.checker.Checker.{Checker}
 use Rattle.core_kernel.specs.Checker.{IsTerm, signature_of, term_of}
-
--- as an environment they are the items as they are held
-pub env-reversed : (us : List Term) (ts : Terms) → from_list (reverse us) ≡ ts → env_of ts ≡ us
-env-reversed us ts e = ap env_of (sym e) ∙ (ap reverse (to_from (reverse us)) ∙ reverse-reverse us)
-
-pub count-reversed : (us : List Term) (ts : Terms) → from_list (reverse us) ≡ ts → length (to_list ts) ≡ length us
-count-reversed us ts e = ap (λ xs. length (to_list xs)) (sym e) ∙ (ap length (to_from (reverse us)) ∙ length-reverse us)
 
 -- the size of the greatest
 abbrev pub most_of : (ℕ → Term) → List ℕ → ℕ

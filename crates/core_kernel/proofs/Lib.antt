@@ -3,17 +3,14 @@ pub mod Checking
 pub mod Nodes
 pub mod Heads
 pub mod Verdicts
-pub mod Telescopes
 pub mod Filling
 pub mod Functions
 pub mod Spines
 pub mod Slots
 pub mod Walk
-pub mod Arguments
 pub mod Items
 pub mod Fits
 pub mod Levels
-pub mod Named
 pub mod Entering
 pub mod Shown
 pub mod Typed

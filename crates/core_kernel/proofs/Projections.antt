@@ -11,7 +11,7 @@ use Rattle.core_kernel.specs.declared.error.KernelError.{KernelError}
 use Rattle.core_kernel.specs.Answers.{RefusedBy}
 use Rattle.core_kernel.specs.Checker.{Over, Grows, IsReady, Keeps, ShowsParams, over, signature_of}
 use Rattle.core_kernel.proofs.Checking.{here, signature_kept}
-use Rattle.family_args.proofs.Fields.{field_place_fam}
+use Rattle.declared_types.proofs.Fields.{field_place_fam}
 
 -- y is the checker after the term's type is inferred
 module _ {x y : Checker} (r : IsReady x) (g : Grows x y) (k : Keeps x y) (field fam at : ℕ) (place : field_place x.signature.now field ≡ Some (fam, at)) (is : IsField (signature_of x) field) where

@@ -1,7 +1,6 @@
 -- The record that a type shows, by the head form that code has found.
-use Rattle.std.proofs.Common.{◌≡◌, ◌<◌, ℕ, List, [], ◌∷◌, ◌++◌, append_assoc, length, map, refl, sym, ap, subst, ◌∙◌}
+use Rattle.std.proofs.Common.{◌≡◌, ◌<◌, ℕ, List, length, map, refl, sym, ap, subst, ◌∙◌}
 use Rattle.std.specs.List.{AllByRecursion}
-use Rattle.std.proofs.lemmas.List.{map-append}
 use Rattle.std.specs.Prelude.{cond, eqb, Option, Some, None, Result, Ok, Err, IfOk, IfSome}
 use Rattle.std.specs.declared.vec.Vec.{Vec}
 use Rattle.core_rules.specs.Term.{Term, Var, Sort, Pi, Lam, App, Def, Fam, Con, Proj, Meta}
@@ -11,11 +10,10 @@ use Rattle.core_rules.specs.Elimination.{Elim, elims}
 use Rattle.core_rules.specs.Heads.{Within, Out, HeadOf}
 use Rattle.core_rules.specs.BoundedLaws.{no_solutions}
 use Rattle.term_pool.specs.Pool.{Pool, Extends, tree}
-use Rattle.term_pool.specs.Placed.{items-stay}
 use Rattle.core_terms.specs.Signature.{Stands, signature_in}
 use Rattle.core_kernel.specs.Record.{params_or}
-use Rattle.core_kernel.proofs.Contexts.{fam_within, telescope-stays}
-use Rattle.family_args.proofs.Fields.{decl_is}
+use Rattle.declared_types.proofs.Grown.{fam_within, telescope-stays}
+use Rattle.declared_types.proofs.Fields.{decl_is}
 use Rattle.weak_head.specs.Elims.{AllBelow, spine_in}
 use Rattle.weak_head.specs.States.{AppliedBelow, answer_in}
 use Rattle.weak_head.specs.Answers.{IsReduced}
@@ -79,15 +77,6 @@ module _ {G : Type 0} (f : ℕ → Term) (a : A.Applied) where
 
   pub its_params : (o : Option (Vec ℕ G)) (v : Vec ℕ G) → o ≡ Some v → params_or f a o ≡ Gives (map f v.items)
   its_params o v e = ap (λ (w : Option (Vec ℕ G)). params_or f a w) e
-
--- the projection of one field more, after the terms
-pub fields_next : (q r : Pool) (env new : List ℕ) (v k : ℕ) (t : Term) (left more : List ℕ) (W : List Term) → Extends q r → AllByRecursion (λ i. i < length q.trees) env → new ≡ env ++ v ∷ [] → tree r v ≡ Proj k t → left ≡ k ∷ more
-    → map (tree q) env ++ map (λ f. Proj f t) left ≡ W → map (tree r) new ++ map (λ f. Proj f t) more ≡ W
-fields_next q r env new v k t left more W h all n e l w =
-    let F : ℕ → Term = λ f. Proj f t in
-    let a : map (tree r) new ≡ map (tree q) env ++ Proj k t ∷ [] =
-    ap (map (tree r)) n ∙ (map-append (tree r) env (v ∷ []) ∙ (ap (λ (us : List Term). us ++ tree r v ∷ []) (items-stay q r env h all) ∙ ap (λ (u : Term). map (tree q) env ++ u ∷ []) e)) in
-    ap (λ (us : List Term). us ++ map F more) a ∙ (append_assoc (map (tree q) env) (Proj k t ∷ []) (map F more) ∙ (ap (λ (fs : List ℕ). map (tree q) env ++ map F fs) (sym l) ∙ w))
 
 -- the ids of arguments stand in the pool
 pub params-below : {G X : Type 0} (n : ℕ) (xs : List E.Elim) (r : Result (Option (Vec ℕ G)) X) → AllBelow n xs → IfOk r (λ o. IfSome o (λ v. (m : ℕ) → AllBelow m xs → AllByRecursion (λ t. t < m) v.items))

@@ -3,10 +3,11 @@ use Rattle.std.proofs.Common.{◌≡◌, ◌<◌, ◌≤◌, ◌+◌, ◌-◌, �
 use Rattle.std.specs.Prelude.{slice_get, Some}
 use Rattle.std.specs.List.{AllByRecursion}
 use Rattle.std.proofs.lemmas.List.{length-take, length-take-le, take-take}
-use Rattle.el_base.proofs.Throughout.{all-at, all-weaker}
+use Rattle.el_base.proofs.Throughout.{all-at}
 use Rattle.term_pool.specs.Pool.{Pool, Extends, tree}
-use Rattle.term_pool.specs.Growth.{Extends-length, Extends-tree, Extends-trans}
+use Rattle.term_pool.specs.Growth.{Extends-tree, Extends-trans}
 use Rattle.term_pool.specs.Placed.{items-stay}
+use Rattle.declared_types.proofs.Grown.{all-grown}
 
 -- the items from s on, before e
 abbrev pub slot : ℕ → ℕ → List ℕ → List ℕ
@@ -52,9 +53,6 @@ all-drop P (suc n) (x ∷ xs) a = all-drop P n xs a.1
 
 pub all-slot : (P : ℕ → Type 0) (s e : ℕ) (ts : List ℕ) → AllByRecursion P ts → AllByRecursion P (slot s e ts)
 all-slot P s e ts a = all-take P (e - s) (drop s ts) (all-drop P s ts a)
-
-pub all-grown : (p q : Pool) (ts : List ℕ) → Extends p q → AllByRecursion (λ i. i < length p.trees) ts → AllByRecursion (λ i. i < length q.trees) ts
-all-grown p q ts h a = all-weaker _ _ (λ (i : ℕ) (l : i < length p.trees). omega (arith, Extends-length h, l)) ts a
 
 length-slot : (n e : ℕ) (ts : List ℕ) → n ≤ e → e ≤ length ts → length (slot n e ts) ≡ e - n
 length-slot zero e ts l m = let z : e - 0 ≡ e = omega arith in ap (λ k. length (take k ts)) z ∙ (length-take-le e ts m ∙ sym z)

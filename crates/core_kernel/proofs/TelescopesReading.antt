@@ -16,7 +16,7 @@ use Rattle.core_kernel.specs.Checker.{Grows, IsReady, Over, context_in, context_
 use Rattle.core_kernel.specs.Family.{Enters, IsDone, Levels, TelescopesOf}
 use Rattle.core_kernel.proofs.Checking.{refused-weaker, refused_first, refused_after}
 use Rattle.core_kernel.proofs.ConReading.{over_inside}
-use Rattle.core_kernel.proofs.Contexts.{telescope-stays}
+use Rattle.declared_types.proofs.Grown.{telescope-stays}
 use Rattle.core_kernel.proofs.Entering.{signature_grown}
 
 -- x is the checker before any entry

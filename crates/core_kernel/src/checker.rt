@@ -1,8 +1,8 @@
 //! What terms are read over, and what the head form of a type shows.
 
 ghost use Rattle.std.specs.Prelude.{◌≡◌, ◌<◌, length};
-ghost use Rattle.core_rules.specs.Term.{Var, Sort, Def};
-ghost use Rattle.core_rules.specs.Signature.{defs};
+ghost use Rattle.core_rules.specs.Term.{Var, Sort, Def, Fam};
+ghost use Rattle.core_rules.specs.Signature.{defs, fams};
 ghost use Rattle.kernel_rules.specs.Outcome.{Gives};
 ghost use Rattle.core_kernel.specs.Answers.{Answers, AnswersTerm};
 ghost use Rattle.core_kernel.specs.Checker.{IsReady, Grows, Keeps, over, term_of, signature_of};
@@ -11,8 +11,10 @@ ghost use Rattle.core_kernel.specs.Checker.{Infers, Shows, ShowsLevel, ShowsPart
 use crate::error::KernelError;
 use conversion::{Conv, convert};
 use core_rules::Flag;
-use core_terms::{DefId, Entry, Limits, NoSolutions, Node, Signature, TermId, TermPool, shift};
-use family_args::same_flag;
+use core_terms::{
+    DefId, Entry, FamId, Limits, NoSolutions, Node, Signature, TermId, TermPool, shift,
+};
+use declared_types::{fam_type, same_flag};
 use std::alloc::Global;
 use weak_head::{Head, head};
 
@@ -174,5 +176,17 @@ impl<'a> Checker<'a> {
         ensures is { Infers (over self.old) (Def def) (Gives (term_of self.new result)) }
     {
         self.signature.def(def).ty
+    }
+
+    /// The type of a family.
+    pub(crate) fn type_of_family(&mut self, fam: FamId) -> Result<TermId, KernelError>
+        requires ready { IsReady self.old }
+        requires scope { fam < length (fams (signature_of self.old)) }
+        ensures grows { Grows self.old self.new }
+        ensures keeps { Keeps self.old self.new }
+        ensures is { AnswersTerm self.new.pool.now (Infers (over self.old) (Fam fam)) result }
+    {
+        let entry = self.signature.fam(fam);
+        Ok(fam_type(self.pool, &entry.decl)?)
     }
 }

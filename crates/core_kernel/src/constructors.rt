@@ -13,10 +13,10 @@ ghost use Rattle.core_kernel.specs.Answers.{Answers, AnswersTerm};
 ghost use Rattle.core_kernel.specs.Checker.{IsReady, IsTerm, Grows, Keeps, Infers, FitsInto, over, term_of, signature_of};
 
 use crate::checker::Checker;
-use crate::ends::con_type;
 use crate::error::KernelError;
 use crate::spine::between;
 use core_terms::{Args, ConId, CoreDecl, Entry, NoMemory, TermId, TermPool};
+use declared_types::type_of_con;
 
 /// The items of an argument list, the last one first.
 fn reversed(pool: &TermPool, list: Args) -> Result<Vec<TermId>, NoMemory>
@@ -88,14 +88,6 @@ impl<'a> Checker<'a> {
         ensures is { IfOk result (λ r. (is : IsCon (signature_of self.old) con) → StandsFor self.new.pool.now r
             (under (map (term_of self.old) params.now) (declared_type is.fam is.decl is.con))) }
     {
-        let signature = self.signature;
-        let (fam, at) = signature.con(con);
-        let decl = &signature.fam(fam).decl;
-        let CoreDecl::Family { cons, .. } = decl else {
-            unreachable!()
-        };
-        let con = &cons.as_slice()[at as usize];
-        let ty = con_type(self.pool, fam, decl, con)?;
-        self.put_under(ty, params)
+        type_of_con(self.alloc, self.pool, self.signature, con, params)
     }
 }

@@ -6,7 +6,6 @@
 
 mod checker;
 mod constructors;
-mod ends;
 mod error;
 mod family;
 mod kernel;
@@ -14,7 +13,6 @@ mod records;
 mod spine;
 mod telescope;
 mod terms;
-mod types;
 
 pub use error::{FamilyError, KernelError};
 pub use family::check_family;

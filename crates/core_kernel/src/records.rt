@@ -1,8 +1,8 @@
 //! Projections: the record that a type shows, and the type of its field.
 
-ghost use Rattle.std.specs.Prelude.{◌≡◌, ◌<◌, ◌++◌, length, map, Some, IfOk, IfSome};
+ghost use Rattle.std.specs.Prelude.{◌≡◌, ◌<◌, length, map, Some, IfOk, IfSome};
 ghost use Rattle.std.specs.List.{AllByRecursion};
-ghost use Rattle.core_rules.specs.Term.{Term, Proj};
+ghost use Rattle.core_rules.specs.Term.{Term};
 ghost use Rattle.core_rules.specs.Substitution.{under};
 ghost use Rattle.core_rules.specs.Signature.{Family, FamDecl, fam_decl, fams};
 ghost use Rattle.core_rules.specs.Mapped.{fam_map};
@@ -18,7 +18,7 @@ ghost use Rattle.core_kernel.specs.Record.{AnswersParams, params_or};
 use crate::checker::Checker;
 use crate::error::KernelError;
 use core_terms::{CoreDecl, FamId, FieldId, NoMemory, NoSolutions, Node, TermId, TermPool, under};
-use family_args::params_for;
+use declared_types::{params_for, type_of_field};
 use std::alloc::Global;
 use weak_head::{Applied, Reduced, applied, reduce};
 
@@ -96,41 +96,7 @@ impl<'a> Checker<'a> {
         ensures is { IfOk result (λ r. (is : IsField (signature_of self.old) field) → StandsFor self.new.pool.now r
             (under (field_env (signature_of self.old) field is (map (term_of self.old) params.items) (term_of self.old of)) is.entry.ty)) }
     {
-        let (fam, at) = self.signature.field(field);
-        let entry = self.signature.fam(fam);
-        let CoreDecl::Family { fields, .. } = &entry.decl else {
-            unreachable!()
-        };
-        let at = at as usize;
-        let declared = fields.entries.as_slice()[at];
-        let mut env = self.with_fields(params, &entry.fields.as_slice()[..at], of)?;
-        env.reverse();
-        self.put_under(declared.ty, env.as_slice())
-    }
-
-    /// The terms, and after them the projections of `of` to these fields.
-    fn with_fields(
-        &mut self,
-        terms: Vec<TermId>,
-        fields: &[FieldId],
-        of: TermId,
-    ) -> Result<Vec<TermId>, NoMemory>
-        requires terms { AllByRecursion (λ t. t < length self.old.pool.now.trees) terms.items }
-        requires of { of < length self.old.pool.now.trees }
-        ensures grows { Grows self.old self.new }
-        ensures keeps { Keeps self.old self.new }
-        ensures below { IfOk result (λ v. AllByRecursion (λ t. t < length self.new.pool.now.trees) v.items) }
-        ensures is { IfOk result (λ v. map (term_of self.new) v.items
-            ≡ map (term_of self.old) terms.items ++ map (λ f. Proj f (term_of self.old of)) fields.now) }
-    {
-        let mut env = terms;
-        let mut left = fields;
-        while let [field, more @ ..] = left {
-            let value = self.pool.add(Node::Proj { field: *field, of })?;
-            env.push(value)?;
-            left = more;
-        }
-        Ok(env)
+        type_of_field(self.alloc, self.pool, self.signature, field, params, of)
     }
 
     /// A type that stands under terms alone, the innermost one first, with these put in.

@@ -13,7 +13,7 @@ use crate::checker::Checker;
 use crate::error::KernelError;
 use core_rules::Flag;
 use core_terms::{NoMemory, Node, TermId, TermPool, fill};
-use family_args::same_flag;
+use declared_types::same_flag;
 use std::alloc::Global;
 
 /// An argument, and how it is given.

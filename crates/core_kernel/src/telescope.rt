@@ -12,9 +12,9 @@ ghost use Rattle.core_kernel.specs.Checker.{IsReady, Grows, Keeps, over, term_of
 ghost use Rattle.core_kernel.specs.Family.{Enters, Levels, ReadsCon, ReadsCons, TelescopesOf};
 
 use crate::checker::Checker;
-use crate::ends::con_end;
 use crate::error::{FamilyError, KernelError};
 use core_terms::{ConDecl, CoreDecl, Entry, FamId, Row};
+use declared_types::con_end;
 
 /// Whether no level is above `level`.
 fn none_above(level: u32, levels: &[u32]) -> bool

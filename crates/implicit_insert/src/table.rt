@@ -16,7 +16,7 @@ use core_rules::Flag;
 use core_terms::{
     FamId, FieldId, NameId, NoMemory, Node, Row, Signature, Solutions, TermId, TermPool,
 };
-use family_args::params_for;
+use declared_types::params_for;
 use std::alloc::Global;
 use weak_head::{Applied, Elim, Reduced, applied, reduce};
 

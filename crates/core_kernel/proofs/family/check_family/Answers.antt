@@ -8,7 +8,7 @@ use Rattle.term_pool.specs.Pool.{tree}
 use Rattle.core_terms.specs.Signature.{Stands, fam_of, signature_in}
 use Rattle.kernel_rules.specs.FamilyReading.{ConsOf}
 use Rattle.core_kernel.specs.Answers.{AnswersFamily}
-use Rattle.core_kernel.proofs.Contexts.{fam-within}
+use Rattle.declared_types.proofs.Grown.{fam-within}
 use Rattle.core_kernel.proofs.FamilyKnown.{cons_answered, known_count, known_scope, known_stands, telescopes_refused}
 use Rattle.core_kernel.proofs.Typed.{family}
 use Rattle.core_kernel.proofs.family.check_family.Goals as goal

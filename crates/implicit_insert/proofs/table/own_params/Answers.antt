@@ -6,7 +6,7 @@ use Rattle.term_pool.specs.Pool.{tree}
 use Rattle.kernel_rules.specs.TermReading.{arguments_for}
 use Rattle.weak_head.specs.Elims.{AllBelow, spine_in}
 use Rattle.weak_head.proofs.Lookups.{no_field}
-use Rattle.family_args.proofs.Fields.{field_named, field_fam_below, field_family, field_place_fam}
+use Rattle.declared_types.proofs.Fields.{field_named, field_fam_below, field_family, field_place_fam}
 use Rattle.implicit_insert.proofs.Own.{no_own_field, other_fam, own_is}
 use Rattle.implicit_insert.proofs.table.own_params.Goals as goal
 

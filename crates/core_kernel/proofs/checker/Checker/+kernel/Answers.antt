@@ -5,7 +5,8 @@ use Rattle.core_rules.specs.Substitution.{under}
 use Rattle.core_terms.proofs.Declared.{at-get}
 use Rattle.el_base.proofs.Throughout.{all-at}
 use Rattle.core_kernel.specs.Checker.{FitsInto, IsTerm}
-use Rattle.core_kernel.proofs.Items.{env-reversed, most-at, most-items, most_of, terms-all}
+use Rattle.core_kernel.proofs.Items.{most-at, most-items, most_of, terms-all}
+use Rattle.declared_types.proofs.Turned.{env-reversed}
 use Rattle.core_kernel.proofs.Fits.{FitsHere, fits-end, fits-goes_on, fits-stops}
 use Rattle.std.proofs.lemmas.Result.{err_from_is_err_and}
 use Rattle.core_rules.specs.Term.{Term, Sort, Pi, Proj, env_of, from_list, size, to_list}
@@ -16,10 +17,10 @@ use Rattle.kernel_rules.specs.Outcome.{Gives, Refuses}
 use Rattle.core_kernel.specs.Answers.{Answers, RefusedBy}
 use Rattle.core_kernel.specs.Checker.{Infers, HasLevel, ShowsLevel, ShowsParts, Agree, over, term_of}
 use Rattle.core_kernel.proofs.Checking.{over_kept, ready_kept, signature_kept, term_kept, is_body_kept, is_term_kept, within_kept, refused-weaker, here, here_for, here_under, under_entry, Grows-trans, Keeps-trans, refused_first, answers_after, pi-no_domain, pi-no_codomain, pi-gives, lam-no_domain, lam-no_body, lam-gives, proj-no_value, proj-no_record, proj-gives, given-gives, given-no_fit, Grows-refl, Keeps-refl}
-use Rattle.core_kernel.proofs.Named.{con_below, con_count, con_entries, con_fam_below}
-use Rattle.family_args.proofs.Fields.{field_named, field_fam_below}
+use Rattle.declared_types.proofs.Named.{con_below, con_count, con_entries, con_fam_below}
+use Rattle.declared_types.proofs.Fields.{field_named, field_fam_below}
 use Rattle.core_kernel.proofs.Projections.{named_after, no_record, record_shown}
-use Rattle.core_kernel.proofs.Contexts.{fam_within}
+use Rattle.declared_types.proofs.Grown.{all-grown, fam_within}
 use Rattle.core_rules.specs.Elimination.{con_type}
 use Rattle.core_rules.specs.Mapped.{AllEntries}
 use Rattle.core_rules.specs.InScope.{InScope, any_meta}
@@ -34,7 +35,7 @@ use Rattle.term_pool.specs.Placed.{filled_var}
 use Rattle.core_kernel.specs.Answers.{AnswersTerm}
 use Rattle.core_kernel.specs.Checker.{Over}
 use Rattle.core_kernel.specs.Spine.{filled_in, unwound}
-use Rattle.core_kernel.proofs.Slots.{all-grown, all-slot, slot, used-within}
+use Rattle.core_kernel.proofs.Slots.{all-slot, slot, used-within}
 use Rattle.core_kernel.proofs.Spines.{argument-terms, arguments_kept, head-smaller, head-term, most-smaller, most_kept, refused-unwound, unwound_kept}
 use Rattle.core_kernel.proofs.Walk.{IsReading, all_popped, all_terms, most_popped, place_last, place_popped, place_rest, place_start, popped-count, reading_last, reading_start, terms_within, walk-no_argument, walk-no_function, walked}
 use Rattle.core_kernel.specs.declared.spine.Argument.{Argument}

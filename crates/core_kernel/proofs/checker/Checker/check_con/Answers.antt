@@ -13,7 +13,7 @@ use Rattle.core_kernel.specs.Answers.{RefusedBy}
 use Rattle.core_kernel.specs.Checker.{over, term_of}
 use Rattle.core_kernel.specs.Family.{Levels}
 use Rattle.core_kernel.proofs.ConReading.{con_args_refused, counts_differ, counts_same, con_end_refused, con_is_good, con_shape_refused, con_too_big, end_stays, end_term, entered_on, grown_on, ready_inside}
-use Rattle.core_kernel.proofs.Contexts.{con-within}
+use Rattle.declared_types.proofs.Grown.{con-within}
 use Rattle.core_kernel.proofs.checker.Checker.check_con.Goals as goal
 
 pub returns-in_err-levels-clause-is : goal.returns-in_err-levels-clause-is

@@ -10,7 +10,7 @@ use Rattle.core_kernel.specs.Answers.{RefusedBy}
 use Rattle.core_kernel.specs.Checker.{over, signature_of, term_of}
 use Rattle.core_kernel.specs.Family.{Levels}
 use Rattle.core_kernel.proofs.ConReading.{entered_on, ready_inside}
-use Rattle.core_kernel.proofs.Contexts.{entries-weaker}
+use Rattle.declared_types.proofs.Grown.{entries-weaker}
 use Rattle.core_kernel.proofs.TelescopesReading.{indices_refused, indices_scope, params_refused, telescopes_read}
 use Rattle.core_kernel.proofs.checker.Checker.check_telescopes.Goals as goal
 

@@ -1,7 +1,7 @@
 use Rattle.std.proofs.Common.{refl}
 use Rattle.term_pool.specs.Pool.{tree}
 use Rattle.core_terms.proofs.SignatureGrowth.{entry_type_in}
-use Rattle.core_kernel.proofs.Contexts.{def_within, length-defs_in}
+use Rattle.declared_types.proofs.Grown.{def_within, length-defs_in}
 use Rattle.core_kernel.proofs.checker.Checker.type_of_def.Goals as goal
 
 pub def-requires : goal.def-requires

@@ -3,7 +3,7 @@ use Rattle.core_rules.specs.Mapped.{fam_map}
 use Rattle.term_pool.specs.Pool.{tree}
 use Rattle.core_terms.specs.Signature.{fam_of}
 use Rattle.kernel_rules.specs.Outcome.{Gives}
-use Rattle.core_kernel.proofs.Contexts.{fam_within, fam_in, length-fams_in}
+use Rattle.declared_types.proofs.Grown.{fam_within, fam_in, length-fams_in}
 use Rattle.core_kernel.proofs.checker.Checker.type_of_family.Goals as goal
 
 pub fam-entry-requires : goal.fam-entry-requires
