@@ -1,0 +1,4 @@
+pub mod Comes
+pub mod Answered
+pub mod Forms
+pub mod ByHand
