@@ -1,0 +1,7 @@
+pub mod Comes
+pub mod Exactly
+pub mod Scoped
+pub mod Told
+pub mod Accepted
+pub mod Refused
+pub mod Steps
