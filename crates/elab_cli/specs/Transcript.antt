@@ -6,6 +6,7 @@ use Rattle.std.specs.Io.KnownBytes.{Appends}
 use Rattle.el_outside.specs.Causes.{Rose}
 use Rattle.el_outside.specs.Stored.{FileMap}
 use Rattle.command_line.specs.declared.ask.Ask.{Ask}
+use Rattle.term_pool.specs.declared.limits.Limits.{Limits}
 use Rattle.command_line.specs.declared.ask.Mode.{Mode}
 use Rattle.command_line.specs.declared.ask.Mode.TheVariants.{Check, Session, Gen}
 use Rattle.session_text.specs.declared.report.Report.{Report}
@@ -47,42 +48,44 @@ abbrev pub MayHold : Option FileMap → List ℕ → Option (List ℕ) → Type 
 MayHold None name file = ⊤
 MayHold (Some m) name file = get m name ≡ file
 
--- v is said of the text that stands under the name
-pub record IsJudged (files : Option FileMap) (name : List ℕ) (v : Verdict) : Type 0 where
-  pub text : List ℕ
-  pub holds : MayHold files name (Some text)
-  pub judged : HasVerdict text v
+-- with these limits of head forms and comparisons
+module _ (limits : Limits) where
+  -- v is said of the text that stands under the name
+  pub record IsJudged (files : Option FileMap) (name : List ℕ) (v : Verdict) : Type 0 where
+    pub text : List ℕ
+    pub holds : MayHold files name (Some text)
+    pub judged : HasVerdict limits.fuel limits.depth text v
 
--- all of the line went out, and the status is that line's
-pub record Wrote (files : Option FileMap) (name : List ℕ) (old new : Option (List ℕ)) (status : Status) : Type 0 where
-  pub verdict : Verdict
-  pub judged : IsJudged files name verdict
-  pub meant : status_of verdict ≡ status
-  pub appends : Appends old new (bytes_of verdict)
+  -- all of the line went out, and the status is that line's
+  pub record Wrote (files : Option FileMap) (name : List ℕ) (old new : Option (List ℕ)) (status : Status) : Type 0 where
+    pub verdict : Verdict
+    pub judged : IsJudged files name verdict
+    pub meant : status_of verdict ≡ status
+    pub appends : Appends old new (bytes_of verdict)
 
--- a part of the line went out
-pub record WrotePart (files : Option FileMap) (name : List ℕ) (old new : Option (List ℕ)) : Type 0 where
-  pub verdict : Verdict
-  pub judged : IsJudged files name verdict
-  pub part : AppendsPart old new (bytes_of verdict)
+  -- a part of the line went out
+  pub record WrotePart (files : Option FileMap) (name : List ℕ) (old new : Option (List ℕ)) : Type 0 where
+    pub verdict : Verdict
+    pub judged : IsJudged files name verdict
+    pub part : AppendsPart old new (bytes_of verdict)
 
--- the file is not there, and nothing went out
-pub record IsMissing (files : Option FileMap) (name : List ℕ) (old new : Option (List ℕ)) : Type 0 where
-  pub absent : MayHold files name None
-  pub appends : Appends old new []
+  -- the file is not there, and nothing went out
+  pub record IsMissing (files : Option FileMap) (name : List ℕ) (old new : Option (List ℕ)) : Type 0 where
+    pub absent : MayHold files name None
+    pub appends : Appends old new []
 
--- what each status says of a call for `check NAME`
-abbrev pub CheckAnswers : Option FileMap → List ℕ → Option (List ℕ) → Option (List ℕ) → Status → Type 0
-CheckAnswers files name old new Done = Wrote files name old new Done
-CheckAnswers files name old new FileError = Wrote files name old new FileError
-CheckAnswers files name old new Missing = IsMissing files name old new
-CheckAnswers files name old new FilesFault = Appends old new []
-CheckAnswers files name old new OutputFault = WrotePart files name old new
-CheckAnswers files name old new NoMemory = Appends old new [] ⊎ WrotePart files name old new
-CheckAnswers files name old new Open = ⊥
-CheckAnswers files name old new Usage = ⊥
-CheckAnswers files name old new InputFault = ⊥
-CheckAnswers files name old new InputTooLong = ⊥
+  -- what each status says of a call for `check NAME`
+  abbrev pub CheckAnswers : Option FileMap → List ℕ → Option (List ℕ) → Option (List ℕ) → Status → Type 0
+  CheckAnswers files name old new Done = Wrote files name old new Done
+  CheckAnswers files name old new FileError = Wrote files name old new FileError
+  CheckAnswers files name old new Missing = IsMissing files name old new
+  CheckAnswers files name old new FilesFault = Appends old new []
+  CheckAnswers files name old new OutputFault = WrotePart files name old new
+  CheckAnswers files name old new NoMemory = Appends old new [] ⊎ WrotePart files name old new
+  CheckAnswers files name old new Open = ⊥
+  CheckAnswers files name old new Usage = ⊥
+  CheckAnswers files name old new InputFault = ⊥
+  CheckAnswers files name old new InputTooLong = ⊥
 
 -- ---- the usage line
 
@@ -102,15 +105,15 @@ UsageAnswers old new Missing = ⊥
 -- ---- every call
 
 -- the same of a call for a mode. The modes `session` and `gen` are not built
-abbrev pub ModeAnswers : Mode → Option FileMap → Option (List ℕ) → Option (List ℕ) → Status → Type 0
-ModeAnswers (Check name) files old new status = CheckAnswers files name old new status
-ModeAnswers Session files old new status = UsageAnswers old new status
-ModeAnswers (Gen seed count) files old new status = UsageAnswers old new status
+abbrev pub ModeAnswers : Limits → Mode → Option FileMap → Option (List ℕ) → Option (List ℕ) → Status → Type 0
+ModeAnswers limits (Check name) files old new status = CheckAnswers limits files name old new status
+ModeAnswers limits Session files old new status = UsageAnswers old new status
+ModeAnswers limits (Gen seed count) files old new status = UsageAnswers old new status
 
 -- what each status says of the bytes that went out
 abbrev pub Answers : Option Ask → Option FileMap → Option (List ℕ) → Option (List ℕ) → Status → Type 0
 Answers None files old new status = UsageAnswers old new status
-Answers (Some ask) files old new status = ModeAnswers ask.mode files old new status
+Answers (Some ask) files old new status = ModeAnswers ask.limits ask.mode files old new status
 
 -- the counts of faults and misses of what was handed in
 pub record Counts : Type 0 where

@@ -121,7 +121,7 @@ fn check<F: Files, O: Sink>(
     files: &mut F,
     output: &mut O,
 ) -> Status
-    ensures answers { CheckAnswers (F.stored files.old) name.now (O.written output.old) (O.written output.new) result }
+    ensures answers { CheckAnswers limits (F.stored files.old) name.now (O.written output.old) (O.written output.new) result }
     ensures files { F.stored files.new ≡ F.stored files.old }
     ensures fault { result ≡ Status.FilesFault → Rose (F.faults files.old) (F.faults files.new) }
     ensures missing { result ≡ Status.Missing → Rose (F.misses files.old) (F.misses files.new) }
@@ -140,7 +140,7 @@ fn check<F: Files, O: Sink>(
 
 /// Does what the words ask for, where that is built: `check` alone is.
 fn serve<F: Files, O: Sink>(alloc: Global, ask: Ask, files: &mut F, output: &mut O) -> Status
-    ensures answers { ModeAnswers ask.mode (F.stored files.old) (O.written output.old) (O.written output.new) result }
+    ensures answers { ModeAnswers ask.limits ask.mode (F.stored files.old) (O.written output.old) (O.written output.new) result }
     ensures files { F.stored files.new ≡ F.stored files.old }
     ensures fault { result ≡ Status.FilesFault → Rose (F.faults files.old) (F.faults files.new) }
     ensures missing { result ≡ Status.Missing → Rose (F.misses files.old) (F.misses files.new) }

@@ -1,5 +1,5 @@
 -- Something is said of each text.
-use Rattle.std.proofs.Common.{◌≡◌, ◌<◌, ◌≤◌, ◌+◌, ℕ, zero, suc, Bool, true, false, List, [], ◌∷◌, length, take, map, Some, None, Ok, Err, refl, sym, subst, arith}
+use Rattle.std.proofs.Common.{◌≡◌, ◌≢◌, ◌∙◌, ◌<◌, ◌≤◌, ◌+◌, ℕ, zero, suc, Bool, true, false, List, [], ◌∷◌, length, take, map, Some, None, Ok, Err, refl, sym, subst, arith}
 use Rattle.std.specs.declared.option.Option.{Option}
 use Rattle.std.specs.Prelude.{Result, nat_lt}
 use Rattle.std.specs.Str.{IsUtf8, IsValidUpTo, is_utf8}
@@ -36,10 +36,26 @@ use Rattle.scope_check.proofs.DeclCases.{resolved_holds}
 use Rattle.core_rules.specs.Term.{Term}
 use Rattle.core_rules.specs.Signature.{Signature}
 use Rattle.session_text.specs.declared.error.LoadError.{LoadError}
-use Rattle.file_load.specs.Accept.{with_decl}
+use Rattle.core_rules.specs.Derivable.{Derivable}
+use Rattle.core_rules.proofs.Derivations.{derivable-empty}
+use Rattle.term_pool.specs.Count.{count_of}
+use Rattle.term_pool.specs.declared.count.Count.{Count}
+use Rattle.term_pool.specs.declared.count.Count.TheVariants.{Within, TooLarge}
+use Rattle.kernel_rules.specs.Outcome.{Gives, Refuses}
+use Rattle.kernel_rules.specs.Outcome as outcome
+use Rattle.kernel_rules.specs.Refusals as kernel
+use Rattle.kernel_rules.specs.TermReading.{IsTypeOf}
+use Rattle.kernel_rules.proofs.TermOutcome.{is_type-outcome}
+use Rattle.written_rules.specs.Refusals.{Refusal}
+use Rattle.written_rules.specs.Expressions.{WrittenTypeOf, expr_meaning}
+use Rattle.written_rules.proofs.Comes.{comes-exactly}
+use Rattle.resolved_tree.specs.declared.resolved.ResolvedSignature.{ResolvedSignature}
+use Rattle.resolved_tree.specs.declared.resolved.Resolved.TheVariants as rd
+use Rattle.file_load.specs.Lines.{Judgement, LineOf, LinesOf, DeclOf}
+use Rattle.file_load.proofs.Judging.{type_in_scope}
 use Rattle.file_load.specs.Load.{Declares, DeclaresFile, HasVerdict, IsInError, IsLexed, IsParsed, Made, Outcome, Reads, Verdict, complete_report, limit}
 use Rattle.file_load.specs.Unbuilt.{first_of, in_decl, in_file, or_else}
-use Rattle.file_load.proofs.Accepted.{signature_derivable}
+use Rattle.file_load.proofs.Accepted.{line_derivable, decl_derivable, signature_derivable}
 use Rattle.file_load.proofs.Told.{IsTold, resolves_told}
 
 -- ---- bytes
@@ -98,9 +114,6 @@ module _ (text : List ℕ) where
 
 -- ---- the declarations
 
-refused_in : {A : Type 0} (n : ℕ) (o : Option ℕ) → or_else (Some n) o ≡ None → A
-refused_in n o e = absurd cc
-
 later_none : (a b : Option ℕ) → or_else a b ≡ None → b ≡ None
 later_none None b e = e
 later_none (Some n) b e = absurd cc
@@ -109,21 +122,52 @@ first_none : (a b : Option ℕ) → or_else a b ≡ None → a ≡ None
 first_none None b e = refl
 first_none (Some n) b e = absurd cc
 
--- declarations all of whose forms are built
-declared : (ds : List Decl) (k : Known) (g : Signature Term) → first_of (map in_decl ds) ≡ None → (o : Outcome) × Declares k g ds o
-declared [] k g e = (Ok (k, g), Declares.none)
-declared (x ∷ ds) k g e = of (resolved k x) (resolved_holds k x) (resolves_told k x (first_none (in_decl x) (first_of (map in_decl ds)) e) (resolved_holds k x))
-    (λ m h. declared ds m h (later_none (in_decl x) (first_of (map in_decl ds)) e))
-  where
-    judged : (r : Resolved) (m : Known) → Resolves k x (Ok (r, m)) → (o : Option (Signature Term)) → with_decl g r ≡ o
-        → ((m : Known) (h : Signature Term) → (o : Outcome) × Declares m h ds o) → (o : Outcome) × Declares k g (x ∷ ds) o
-    judged r m is None w more = (_, Declares.refused is w)
-    judged r m is (Some h) w more = let rest = more m h in (rest.0, Declares.declared is w rest.1)
+module _ (fuel depth : ℕ) where
+  -- a line over a derivable signature
+  line : (g : Signature Term) (s : ResolvedSignature) → Derivable g → (j : Judgement) × LineOf fuel depth g s j
+  line g s d = let w = comes-exactly g fuel depth ((expr_meaning g s.ty).types []) in elaborated w.0 w.1
+    where
+      checked : (t : Term) (n : ℕ) → WrittenTypeOf g fuel depth [] s.ty (Gives (t, n)) → count_of t ≢ TooLarge → (o : outcome.Outcome kernel.Refusal ℕ) → IsTypeOf g fuel depth [] t o → (j : Judgement) × LineOf fuel depth g s j
+      checked t n w m (Gives l) k = (_, LineOf.accepted t n l w m k)
+      checked t n w m (Refuses e) k = (_, LineOf.refused t n e w m k)
 
-    of : (m : Checked (Resolved × Known)) → Resolves k x m → IsTold m → ((m : Known) (h : Signature Term) → (o : Outcome) × Declares m h ds o) → (o : Outcome) × Declares k g (x ∷ ds) o
-    of (Ok y) is t more = judged y.0 y.1 is (with_decl g y.0) refl more
-    of (Err (scope.Bad p j n)) is t more = (_, Declares.unresolved is)
-    of (Err scope.NoMemory) is t more = absurd t
+      measured : (t : Term) (n : ℕ) → WrittenTypeOf g fuel depth [] s.ty (Gives (t, n)) → (c : Count) → count_of t ≡ c → (j : Judgement) × LineOf fuel depth g s j
+      measured t n w TooLarge e = (_, LineOf.too_large t n w e)
+      measured t n w (Within k l) e = let o = is_type-outcome g fuel depth [] 0 t refl (type_in_scope g fuel depth s.ty t n d w) in checked t n w (λ f. let both = sym e ∙ f in absurd cc) o.0 o.1
+
+      elaborated : (o : outcome.Outcome Refusal (Term × ℕ)) → WrittenTypeOf g fuel depth [] s.ty o → (j : Judgement) × LineOf fuel depth g s j
+      elaborated (Refuses e) w = (_, LineOf.unelaborated e w)
+      elaborated (Gives q) w = measured q.0 q.1 w (count_of q.0) refl
+
+  lines : (ss : List ResolvedSignature) (g : Signature Term) → Derivable g → (j : Judgement) × LinesOf fuel depth g ss j
+  lines [] g d = (_, LinesOf.none)
+  lines (s ∷ ss) g d = let l = line g s d in of l.0 l.1 (lines ss)
+    where
+      of : (j : Judgement) → LineOf fuel depth g s j → ((h : Signature Term) → Derivable h → (j : Judgement) × LinesOf fuel depth h ss j) → (j : Judgement) × LinesOf fuel depth g (s ∷ ss) j
+      of (Err e) l more = (_, LinesOf.stopped l)
+      of (Ok h) l more = let rest = more h (line_derivable fuel depth l d h refl) in (rest.0, LinesOf.further l rest.1)
+
+  judgement : (g : Signature Term) (r : Resolved) → Derivable g → (j : Judgement) × DeclOf fuel depth g r j
+  judgement g (rd.Postulate p ss) d = lines ss g d
+  judgement g (rd.Function p s cs) d = (_, refl)
+  judgement g (rd.Open p x b) d = (_, refl)
+  judgement g (rd.«Data» p x bs a ss) d = (_, refl)
+  judgement g (rd.Record p x bs a xs) d = (_, refl)
+
+  declared : (ds : List Decl) (k : Known) (g : Signature Term) → Derivable g → first_of (map in_decl ds) ≡ None → (o : Outcome) × Declares fuel depth k g ds o
+  declared [] k g d e = (Ok (k, g), Declares.none)
+  declared (x ∷ ds) k g d e = of (resolved k x) (resolved_holds k x) (resolves_told k x (first_none (in_decl x) (first_of (map in_decl ds)) e) (resolved_holds k x))
+      (λ m h i. declared ds m h i (later_none (in_decl x) (first_of (map in_decl ds)) e))
+    where
+      judged : (r : Resolved) (m : Known) → Resolves k x (Ok (r, m)) → (j : Judgement) → DeclOf fuel depth g r j
+          → ((m : Known) (h : Signature Term) → Derivable h → (o : Outcome) × Declares fuel depth m h ds o) → (o : Outcome) × Declares fuel depth k g (x ∷ ds) o
+      judged r m is (Err e) j more = (_, Declares.refused is j)
+      judged r m is (Ok h) j more = let rest = more m h (decl_derivable fuel depth g h r d j) in (rest.0, Declares.declared is j rest.1)
+
+      of : (m : Checked (Resolved × Known)) → Resolves k x m → IsTold m → ((m : Known) (h : Signature Term) → Derivable h → (o : Outcome) × Declares fuel depth m h ds o) → (o : Outcome) × Declares fuel depth k g (x ∷ ds) o
+      of (Ok y) is t more = let j = judgement g y.0 d in judged y.0 y.1 is j.0 j.1 more
+      of (Err (scope.Bad p j n)) is t more = (_, Declares.unresolved is)
+      of (Err scope.NoMemory) is t more = absurd t
 
 -- ---- the stages
 
@@ -158,19 +202,19 @@ module _ (text : List ℕ) where
       by true e = (_, Reads.too_long (grind (arith, nat_tests)))
       by false e = decoded (grind (arith, nat_tests)) (is_utf8 text) refl
 
-  loaded : (file : File) → Reads text (Ok file) → (o : Outcome) → DeclaresFile file o → (v : Verdict) × HasVerdict text v
-  loaded file r (Err e) h = (Err e, IsInError.undeclared r h)
-  loaded file r (Ok p) h =
+  loaded : (fuel depth : ℕ) (file : File) → Reads text (Ok file) → (o : Outcome) → DeclaresFile fuel depth file o → (v : Verdict) × HasVerdict fuel depth text v
+  loaded fuel depth file r (Err e) h = (Err e, IsInError.undeclared r h)
+  loaded fuel depth file r (Ok p) h =
       let m : Made = record { report = complete_report (length p.1); names = p.0.names; signature = p.1 } in
-      (Ok m, record { file = file; reads = r; made = record { known = p.0; loads = h; names = refl; report = refl }; derivable = signature_derivable file p.0 p.1 h })
+      (Ok m, record { file = file; reads = r; made = record { known = p.0; loads = h; names = refl; report = refl }; derivable = signature_derivable fuel depth file p.0 p.1 h })
 
-  verdict : (r : Result File LoadError) → Reads text r → (v : Verdict) × HasVerdict text v
-  verdict (Err e) r = (Err e, IsInError.unread r)
-  verdict (Ok file) r = let d = declared file.decls nothing_known [] (built r) in loaded file r d.0 d.1
+  verdict : (fuel depth : ℕ) (r : Result File LoadError) → Reads text r → (v : Verdict) × HasVerdict fuel depth text v
+  verdict fuel depth (Err e) r = (Err e, IsInError.unread r)
+  verdict fuel depth (Ok file) r = let d = declared fuel depth file.decls nothing_known [] derivable-empty (built r) in loaded fuel depth file r d.0 d.1
     where
       -- a file that was read on has forms that are built alone
       built : Reads text (Ok file) → in_file file ≡ None
       built (Reads.built p e) = e
 
-pub some_verdict : (text : List ℕ) → (v : Verdict) × HasVerdict text v
-some_verdict text = let r = some_reading text in verdict text r.0 r.1
+pub some_verdict : (fuel depth : ℕ) (text : List ℕ) → (v : Verdict) × HasVerdict fuel depth text v
+some_verdict fuel depth text = let r = some_reading text in verdict text fuel depth r.0 r.1

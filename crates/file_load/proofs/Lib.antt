@@ -1,11 +1,7 @@
 pub mod Accepted
-pub mod Equal
 pub mod Existing
 pub mod Firsts
-pub mod Inferring
 pub mod Judging
 pub mod Loading
-pub mod Translating
 pub mod Told
-pub mod TranslatedTypes
 pub mod Unique

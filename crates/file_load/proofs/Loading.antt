@@ -27,20 +27,21 @@ pub reached : (n : ℕ) (p : Place) (cs : List ℕ) → n ≤ p.at → reaches n
 reached n p [] l = refl
 reached n p (c ∷ cs) l = let no : nat_lt p.at n ≡ false = grind (arith, nat_tests) in rw no refl
 
--- what is said of a file is said of its text
-pub answers_of : (text : List ℕ) (file : File) (a : Loaded) → Reads text (Ok file) → FileAnswers file a → Answers text a
-answers_of text file (answer.Error e) r h = IsInError.undeclared r h
-answers_of text file (answer.Done f) r h = record {
-  verdict = record { file = file; reads = r; made = h.made; derivable = signature_derivable file h.made.known (signature_in (pool_of f) (signature_of f)) h.made.loads };
-  stands = h.stands;
-}
-answers_of text file answer.NoMemory r h = tt
+module _ (fuel depth : ℕ) where
+  -- what is said of a file is said of its text
+  pub answers_of : (text : List ℕ) (file : File) (a : Loaded) → Reads text (Ok file) → FileAnswers fuel depth file a → Answers fuel depth text a
+  answers_of text file (answer.Error e) r h = IsInError.undeclared r h
+  answers_of text file (answer.Done f) r h = record {
+    verdict = record { file = file; reads = r; made = h.made; derivable = signature_derivable fuel depth file h.made.known (signature_in (pool_of f) (signature_of f)) h.made.loads };
+    stands = h.stands;
+  }
+  answers_of text file answer.NoMemory r h = tt
 
--- an error of a text that is not read on
-pub is_error : (text : List ℕ) (a : Loaded) (e : LoadError) → Reads text (Err e) → IsError a e → Answers text a
-is_error text (answer.Error f) e r h = subst (λ (x : LoadError). IsInError text x) (sym h) (IsInError.unread r)
-is_error text (answer.Done f) e r h = absurd h
-is_error text answer.NoMemory e r h = tt
+  -- an error of a text that is not read on
+  pub is_error : (text : List ℕ) (a : Loaded) (e : LoadError) → Reads text (Err e) → IsError a e → Answers fuel depth text a
+  is_error text (answer.Error f) e r h = subst (λ (x : LoadError). IsInError fuel depth text x) (sym h) (IsInError.unread r)
+  is_error text (answer.Done f) e r h = absurd h
+  is_error text answer.NoMemory e r h = tt
 
 -- postulates alone have their ids
 all_defs : (g : Signature ℕ) → AllByRecursion IsPostulate g → length (defs g) ≡ length g
@@ -50,15 +51,15 @@ all_defs (Family d ∷ g) a = absurd a.0
 all_defs (Open x t ∷ g) a = absurd a.0
 all_defs (Function x t qs T ∷ g) a = absurd a.0
 
-pub is_made : (file : File) (old new : Core) (f : LoadedFile) → IsNew old → Declares old.scope (declared old) file.decls (Ok (new.scope, declared new)) → Agrees new
-    → report_of f ≡ complete_report (length (defs new.signature)) → names_of f ≡ new.scope.names → pool_of f ≡ new.pool → signature_of f ≡ new.signature → IsFileDone file f
-is_made file old new f is h a report names pool signature =
+pub is_made : (fuel depth : ℕ) (file : File) (old new : Core) (f : LoadedFile) → IsNew old → Declares fuel depth old.scope (declared old) file.decls (Ok (new.scope, declared new)) → Agrees new
+    → report_of f ≡ complete_report (length (defs new.signature)) → names_of f ≡ new.scope.names → pool_of f ≡ new.pool → signature_of f ≡ new.signature → IsFileDone fuel depth file f
+is_made fuel depth file old new f is h a report names pool signature =
     let same : signature_in (pool_of f) (signature_of f) ≡ declared new = rw (pool, signature) refl in
     let count : length (defs new.signature) ≡ length (declared new) = all_defs new.signature a.postulates ∙ sym (length-map new.signature (decl_map (tree new.pool))) in
     record {
       made = record {
         known = new.scope;
-        loads = subst (λ (g : Signature Term). DeclaresFile file (Ok (new.scope, g))) (sym same) (rw is.scope at (rw is.signature at h));
+        loads = subst (λ (g : Signature Term). DeclaresFile fuel depth file (Ok (new.scope, g))) (sym same) (rw is.scope at (rw is.signature at h));
         names = names;
         report = report ∙ ap complete_report (count ∙ ap length (sym same));
       };

@@ -1,5 +1,6 @@
 -- One thing at most is said of a text.
-use Rattle.std.proofs.Common.{◌≡◌, ◌≢◌, ◌<◌, ℕ, List, length, take, Some, None, Ok, Err, refl, sym, ap, subst, ◌∙◌, arith}
+use Rattle.std.proofs.Common.{◌≡◌, ◌≢◌, ◌<◌, ℕ, List, [], ◌++◌, length, take, Some, None, Ok, Err, refl, sym, ap, ◌∙◌, arith}
+use Rattle.std.proofs.Common.{subst as along}
 use Rattle.std.specs.Prelude.{Result}
 use Rattle.std.specs.Str.{IsUtf8, IsValidUpTo}
 use Rattle.std.proofs.lemmas.List.{take_all}
@@ -28,8 +29,22 @@ use Rattle.core_rules.specs.Signature.{Signature}
 use Rattle.session_text.specs.declared.error.LoadError.{LoadError}
 use Rattle.session_text.specs.declared.error.LoadKind.TheVariants as kind
 use Rattle.file_load.specs.Unbuilt.{in_file}
-use Rattle.file_load.specs.Accept.{with_decl}
-use Rattle.file_load.specs.Load.{Declares, DeclaresFile, HasVerdict, IsInError, IsLexed, IsLoaded, IsParsed, Made, Outcome, Reads, Verdict, complete_report, error_at, lex_kind, parse_kind, place_of_byte}
+use Rattle.term_pool.specs.Count.{count_of}
+use Rattle.term_pool.specs.declared.count.Count.TheVariants.{TooLarge}
+use Rattle.kernel_rules.specs.Outcome.{Gives, Refuses}
+use Rattle.kernel_rules.specs.Outcome as outcome
+use Rattle.kernel_rules.specs.Refusals as kernel
+use Rattle.kernel_rules.specs.TermReading.{IsTypeOf}
+use Rattle.kernel_rules.proofs.Outcome.{one_gives, one_refuses}
+use Rattle.kernel_rules.proofs.OneTerm.{one-is_type}
+use Rattle.written_rules.specs.Refusals.{Refusal}
+use Rattle.written_rules.specs.Expressions.{WrittenTypeOf, expr_meaning}
+use Rattle.written_rules.proofs.Comes.{comes_once}
+use Rattle.resolved_tree.specs.declared.resolved.ResolvedSignature.{ResolvedSignature}
+use Rattle.resolved_tree.specs.declared.resolved.Resolved.TheVariants as rd
+use Rattle.file_load.specs.Kinds.{elab_kind, kernel_kind}
+use Rattle.file_load.specs.Lines.{Judgement, LineOf, LinesOf, DeclOf, error_at, postulates}
+use Rattle.file_load.specs.Load.{Declares, DeclaresFile, HasVerdict, IsInError, IsLexed, IsLoaded, IsParsed, Made, Outcome, Reads, Verdict, complete_report, lex_kind, parse_kind, place_of_byte}
 
 -- ---- the stages
 
@@ -47,7 +62,7 @@ valid_once bs n m v w = by_order (v.longest m) (w.longest n)
         no_more l = b l v.front
 
 not_valid : (bs : List ℕ) (n : ℕ) → IsUtf8 bs → IsValidUpTo bs n → ⊥
-not_valid bs n u v = v.longest (length bs) v.short (subst IsUtf8 (sym (take_all (length bs) bs (omega arith))) u)
+not_valid bs n u v = v.longest (length bs) v.short (along IsUtf8 (sym (take_all (length bs) bs (omega arith))) u)
 
 lexed_once : {text : List ℕ} {l m : Lexed} → IsLexed text l → IsLexed text m → l ≡ m
 lexed_once a b = let at_first = a.tokens in let at_second = b.tokens in cc
@@ -56,11 +71,11 @@ lexed_once a b = let at_first = a.tokens in let at_second = b.tokens in cc
 parsed_once : {text : List ℕ} {a b : Result File ParseError} → a ≢ Err NoMemory → b ≢ Err NoMemory → IsParsed text a → IsParsed text b → a ≡ b
 parsed_once {text = text} {a = a} {b = b} na nb p q =
     let tokens : p.lexed ≡ q.lexed = lexed_once p.lexes q.lexes in
-    let lays : laid p.lexed.tokens ≡ Ok q.signs = subst (λ (l : Lexed). laid l.tokens ≡ Ok q.signs) (sym tokens) q.lays in
+    let lays : laid p.lexed.tokens ≡ Ok q.signs = along (λ (l : Lexed). laid l.tokens ≡ Ok q.signs) (sym tokens) q.lays in
     let signs : p.signs ≡ q.signs = let first = p.lays in cc in
-    let moved : Settles file_then (file_tree text) text (laid_signs p.lexed.tokens q.signs) b = subst (λ (l : Lexed). Settles file_then (file_tree text) text (laid_signs l.tokens q.signs) b) (sym tokens) q.parses in
+    let moved : Settles file_then (file_tree text) text (laid_signs p.lexed.tokens q.signs) b = along (λ (l : Lexed). Settles file_then (file_tree text) text (laid_signs l.tokens q.signs) b) (sym tokens) q.parses in
     parsed_as file_then text (laid_signs p.lexed.tokens p.signs) (file_tree text) a b na nb p.parses
-    (subst (λ (s : List Laid). Settles file_then (file_tree text) text (laid_signs p.lexed.tokens s) b) (sym signs) moved)
+    (along (λ (s : List Laid). Settles file_then (file_tree text) text (laid_signs p.lexed.tokens s) b) (sym signs) moved)
 
 files_once : {text : List ℕ} {f g : File} → IsParsed text (Ok f) → IsParsed text (Ok g) → f ≡ g
 files_once p q = let one = parsed_once (λ e. absurd cc) (λ e. absurd cc) p q in cc
@@ -147,6 +162,64 @@ module _ {text : List ℕ} where
   reads_once (Reads.built p e) (Reads.unbuilt p1 e1) = absurd (not_built p1 e1 p e)
   reads_once (Reads.built p e) (Reads.built p1 e1) = ap Ok (files_once p p1)
 
+-- ---- lines
+
+module _ (fuel depth : ℕ) where
+  type_once : (g : Signature Term) (s : ResolvedSignature) (a b : outcome.Outcome Refusal (Term × ℕ)) → WrittenTypeOf g fuel depth [] s.ty a → WrittenTypeOf g fuel depth [] s.ty b → a ≡ b
+  type_once g s a b w v = comes_once g fuel depth ((expr_meaning g s.ty).types []) a b w v
+
+  -- the terms that are given are one
+  term_once : (g : Signature Term) (s : ResolvedSignature) (t u : Term) (m n : ℕ) → WrittenTypeOf g fuel depth [] s.ty (Gives (t, m)) → WrittenTypeOf g fuel depth [] s.ty (Gives (u, n)) → t ≡ u
+  term_once g s t u m n w v = ap (λ (q : Term × ℕ). q.0) (one_gives (type_once g s (Gives (t, m)) (Gives (u, n)) w v))
+
+  not_both_ways : {A : Type 0} (g : Signature Term) (s : ResolvedSignature) (e : Refusal) (q : Term × ℕ) → WrittenTypeOf g fuel depth [] s.ty (Refuses e) → WrittenTypeOf g fuel depth [] s.ty (Gives q) → A
+  not_both_ways g s e q w v = let one = type_once g s (Refuses e) (Gives q) w v in absurd cc
+
+  kernel_once : (g : Signature Term) (t u : Term) (a b : outcome.Outcome kernel.Refusal ℕ) → t ≡ u → IsTypeOf g fuel depth [] t a → IsTypeOf g fuel depth [] u b → a ≡ b
+  kernel_once g t u a b e k l = one-is_type g fuel depth [] t a b k (along (λ (u : Term). IsTypeOf g fuel depth [] u b) (sym e) l)
+
+  kernel_not_both : {A : Type 0} (g : Signature Term) (t u : Term) (e : kernel.Refusal) (n : ℕ) → t ≡ u → IsTypeOf g fuel depth [] t (Refuses e) → IsTypeOf g fuel depth [] u (Gives n) → A
+  kernel_not_both g t u e n same k l = let one = kernel_once g t u (Refuses e) (Gives n) same k l in absurd cc
+
+  size_of : {A : Type 0} (t u : Term) → t ≡ u → count_of t ≡ TooLarge → count_of u ≢ TooLarge → A
+  size_of t u e m n = absurd (n (ap count_of (sym e) ∙ m))
+
+  line_once : {g : Signature Term} {s : ResolvedSignature} {a b : Judgement} → LineOf fuel depth g s a → LineOf fuel depth g s b → a ≡ b
+  line_once {g = g} {s = s} (LineOf.unelaborated d w) (LineOf.unelaborated e v) = ap (λ (e : Refusal). Err (error_at e.pos (elab_kind e.kind))) (one_refuses (type_once g s (Refuses d) (Refuses e) w v))
+  line_once {g = g} {s = s} (LineOf.unelaborated d w) (LineOf.too_large u j v m) = not_both_ways g s d (u, j) w v
+  line_once {g = g} {s = s} (LineOf.unelaborated d w) (LineOf.refused u j e v m k) = not_both_ways g s d (u, j) w v
+  line_once {g = g} {s = s} (LineOf.unelaborated d w) (LineOf.accepted u j n v m k) = not_both_ways g s d (u, j) w v
+  line_once {g = g} {s = s} (LineOf.too_large t i w m) (LineOf.unelaborated e v) = not_both_ways g s e (t, i) v w
+  line_once (LineOf.too_large t i w m) (LineOf.too_large u j v n) = refl
+  line_once {g = g} {s = s} (LineOf.too_large t i w m) (LineOf.refused u j e v n k) = size_of t u (term_once g s t u i j w v) m n
+  line_once {g = g} {s = s} (LineOf.too_large t i w m) (LineOf.accepted u j l v n k) = size_of t u (term_once g s t u i j w v) m n
+  line_once {g = g} {s = s} (LineOf.refused t i d w m k) (LineOf.unelaborated e v) = not_both_ways g s e (t, i) v w
+  line_once {g = g} {s = s} (LineOf.refused t i d w m k) (LineOf.too_large u j v n) = size_of u t (term_once g s u t j i v w) n m
+  line_once {g = g} {s = s} (LineOf.refused t i d w m k) (LineOf.refused u j e v n l) =
+      ap (λ (e : kernel.Refusal). Err (error_at s.place.pos (kernel_kind e))) (one_refuses (kernel_once g t u (Refuses d) (Refuses e) (term_once g s t u i j w v) k l))
+  line_once {g = g} {s = s} (LineOf.refused t i d w m k) (LineOf.accepted u j e v n l) = kernel_not_both g t u d e (term_once g s t u i j w v) k l
+  line_once {g = g} {s = s} (LineOf.accepted t i d w m k) (LineOf.unelaborated e v) = not_both_ways g s e (t, i) v w
+  line_once {g = g} {s = s} (LineOf.accepted t i d w m k) (LineOf.too_large u j v n) = size_of u t (term_once g s u t j i v w) n m
+  line_once {g = g} {s = s} (LineOf.accepted t i d w m k) (LineOf.refused u j e v n l) = kernel_not_both g u t e d (term_once g s u t j i v w) l k
+  line_once {g = g} {s = s} (LineOf.accepted t i d w m k) (LineOf.accepted u j e v n l) = ap (λ (t : Term). Ok (g ++ postulates s.names t)) (term_once g s t u i j w v)
+
+abbrev stopped : LoadError → Judgement
+stopped e = Err e
+
+abbrev judged_to : Signature Term → Judgement
+judged_to g = Ok g
+
+one_signature_of : (g h : Signature Term) → judged_to g ≡ judged_to h → g ≡ h
+one_signature_of g h e = cc
+
+lines_once : {fuel depth : ℕ} {g : Signature Term} {ss : List ResolvedSignature} {a b : Judgement} → LinesOf fuel depth g ss a → LinesOf fuel depth g ss b → a ≡ b
+lines_once LinesOf.none LinesOf.none = refl
+lines_once (LinesOf.stopped l) (LinesOf.stopped m) = line_once _ _ l m
+lines_once (LinesOf.stopped l) (LinesOf.further m ms) = let one = line_once _ _ l m in absurd cc
+lines_once (LinesOf.further l ls) (LinesOf.stopped m) = let one = line_once _ _ l m in absurd cc
+lines_once {fuel = fuel} {depth = depth} {b = b} (LinesOf.further {h = f} {ss = ss} l ls) (LinesOf.further {h = h} m ms) =
+    lines_once ls (along (λ (i : Signature Term). LinesOf fuel depth i ss b) (one_signature_of h f (line_once _ _ m l)) ms)
+
 -- ---- the declarations
 
 abbrev resolves_to : Resolved → Known → Checked (Resolved × Known)
@@ -156,42 +229,56 @@ resolves_to r m = Ok (r, m)
 pair_once : {m n : Known} {r q : Resolved} → resolves_to r m ≡ resolves_to q n → (r ≡ q) × (m ≡ n)
 pair_once {m = m} {n = n} {r = r} {q = q} e = let pair : (r, m) ≡ (q, n) = cc in (ap (λ (t : Resolved × Known). t.0) pair, ap (λ (t : Resolved × Known). t.1) pair)
 
-not_declared : (g : Signature Term) {h : Signature Term} {r q : Resolved} → r ≡ q → with_decl g r ≡ None → with_decl g q ≡ Some h → ⊥
-not_declared g {h = h} same n s = let both : None ≡ Some h = sym n ∙ ap (with_decl g) same ∙ s in absurd cc
+decl_once : (fuel depth : ℕ) (g : Signature Term) (a b : Judgement) (r : Resolved) → DeclOf fuel depth g r a → DeclOf fuel depth g r b → a ≡ b
+decl_once fuel depth g a b (rd.Postulate p ss) j i = lines_once j i
+decl_once fuel depth g a b (rd.Function p s cs) j i = j ∙ sym i
+decl_once fuel depth g a b (rd.Open p x e) j i = j ∙ sym i
+decl_once fuel depth g a b (rd.«Data» p x bs c ss) j i = j ∙ sym i
+decl_once fuel depth g a b (rd.Record p x bs c xs) j i = j ∙ sym i
 
-signature_once : (g : Signature Term) {h i : Signature Term} {r q : Resolved} → r ≡ q → with_decl g r ≡ Some h → with_decl g q ≡ Some i → h ≡ i
-signature_once g {h = h} {i = i} same s t = let both : Some h ≡ Some i = sym s ∙ ap (with_decl g) same ∙ t in cc
+judgement_once : (fuel depth : ℕ) (g : Signature Term) (a b : Judgement) (r q : Resolved) → r ≡ q → DeclOf fuel depth g r a → DeclOf fuel depth g q b → a ≡ b
+judgement_once fuel depth g a b r q e j i = decl_once fuel depth g a b r j (along (λ (q : Resolved). DeclOf fuel depth g q b) (sym e) i)
 
-declares_once : {k : Known} {g : Signature Term} {ds : List Decl} {a b : Outcome} → Declares k g ds a → Declares k g ds b → a ≡ b
+abbrev stopped_with : LoadError → Outcome
+stopped_with e = Err e
+
+error_once : {e f : LoadError} → stopped e ≡ stopped f → e ≡ f
+error_once e = cc
+
+declares_once : {fuel depth : ℕ} {k : Known} {g : Signature Term} {ds : List Decl} {a b : Outcome} → Declares fuel depth k g ds a → Declares fuel depth k g ds b → a ≡ b
 declares_once Declares.none Declares.none = refl
 declares_once (Declares.unresolved {k = k} {d = d} e) (Declares.unresolved f) = let one = resolved_once k d _ _ e f in cc
 declares_once (Declares.unresolved {k = k} {d = d} e) (Declares.refused f r) = let one = resolved_once k d _ _ e f in absurd cc
 declares_once (Declares.unresolved {k = k} {d = d} e) (Declares.declared f r more) = let one = resolved_once k d _ _ e f in absurd cc
 declares_once (Declares.refused {k = k} {d = d} e r) (Declares.unresolved f) = let one = resolved_once k d _ _ e f in absurd cc
-declares_once (Declares.refused e r) (Declares.refused f s) = refl
-declares_once (Declares.refused {k = k} {g = g} {d = d} e r) (Declares.declared f s more) = absurd (not_declared g (pair_once (resolved_once k d _ _ e f)).0 r s)
+declares_once {fuel = fuel} {depth = depth} (Declares.refused {k = k} {g = g} {d = d} {r = x} {e = a} e r) (Declares.refused {r = y} {e = b} f s) =
+    ap stopped_with (error_once (judgement_once fuel depth g (Err a) (Err b) x y (pair_once (resolved_once k d _ _ e f)).0 r s))
+declares_once {fuel = fuel} {depth = depth} (Declares.refused {k = k} {g = g} {d = d} {r = x} {e = a} e r) (Declares.declared {h = i} {r = y} f s more) =
+    let one = judgement_once fuel depth g (Err a) (Ok i) x y (pair_once (resolved_once k d _ _ e f)).0 r s in absurd cc
 declares_once (Declares.declared {k = k} {d = d} e r more) (Declares.unresolved f) = let one = resolved_once k d _ _ e f in absurd cc
-declares_once (Declares.declared {k = k} {g = g} {d = d} e r more) (Declares.refused f s) = absurd (not_declared g (pair_once (resolved_once k d _ _ f e)).0 s r)
-declares_once (Declares.declared {k = k} {g = g} {h = h} {d = d} {ds = ds} e r more) (Declares.declared {m = m} {result = b} f s more1) =
+declares_once {fuel = fuel} {depth = depth} (Declares.declared {k = k} {g = g} {h = h} {d = d} {r = x} e r more) (Declares.refused {r = y} {e = b} f s) =
+    let one = judgement_once fuel depth g (Ok h) (Err b) x y (pair_once (resolved_once k d _ _ e f)).0 r s in absurd cc
+declares_once {fuel = fuel} {depth = depth} (Declares.declared {k = k} {g = g} {h = h} {d = d} {ds = ds} {r = x} e r more) (Declares.declared {m = m} {h = i} {r = y} {result = b} f s more1) =
     let same = pair_once (resolved_once k d _ _ e f) in
-    declares_once more (subst (λ (l : Known). Declares l h ds b) (sym same.1) (subst (λ (i : Signature Term). Declares m i ds b) (sym (signature_once g same.0 r s)) more1))
+    let signature : h ≡ i = one_signature_of h i (judgement_once fuel depth g (Ok h) (Ok i) x y same.0 r s) in
+    declares_once more (along (λ (l : Known). Declares fuel depth l h ds b) (sym same.1) (along (λ (i : Signature Term). Declares fuel depth m i ds b) (sym signature) more1))
 
 -- ---- the verdict
 
-module _ (text : List ℕ) where
+module _ (fuel depth : ℕ) (text : List ℕ) where
   file_once : {f g : File} → Reads text (Ok f) → Reads text (Ok g) → f ≡ g
   file_once r s = let one = reads_once r s in cc
 
-  loads_once : {f g : File} {a b : Outcome} → Reads text (Ok f) → DeclaresFile f a → Reads text (Ok g) → DeclaresFile g b → a ≡ b
-  loads_once {b = b} r d s c = declares_once d (subst (λ (h : File). DeclaresFile h b) (sym (file_once r s)) c)
+  loads_once : {f g : File} {a b : Outcome} → Reads text (Ok f) → DeclaresFile fuel depth f a → Reads text (Ok g) → DeclaresFile fuel depth g b → a ≡ b
+  loads_once {b = b} r d s c = declares_once d (along (λ (h : File). DeclaresFile fuel depth h b) (sym (file_once r s)) c)
 
-  errors_once : {e f : LoadError} → IsInError text e → IsInError text f → e ≡ f
+  errors_once : {e f : LoadError} → IsInError fuel depth text e → IsInError fuel depth text f → e ≡ f
   errors_once (IsInError.unread r) (IsInError.unread s) = let one = reads_once r s in cc
   errors_once (IsInError.unread r) (IsInError.undeclared s d) = let one = reads_once r s in absurd cc
   errors_once (IsInError.undeclared r d) (IsInError.unread s) = let one = reads_once r s in absurd cc
   errors_once (IsInError.undeclared r d) (IsInError.undeclared s c) = let one = loads_once r d s c in cc
 
-  not_both : {e : LoadError} {m : Made} → IsInError text e → IsLoaded text m → ⊥
+  not_both : {e : LoadError} {m : Made} → IsInError fuel depth text e → IsLoaded fuel depth text m → ⊥
   not_both (IsInError.unread r) b = let one = reads_once r b.reads in absurd cc
   not_both (IsInError.undeclared r d) b = let one = loads_once r d b.reads b.made.loads in absurd cc
 
@@ -201,7 +288,7 @@ module _ (text : List ℕ) where
   ends_once : (p q : Known × Signature Term) → declared_to p ≡ declared_to q → p ≡ q
   ends_once p q e = cc
 
-  made_once : {m n : Made} → IsLoaded text m → IsLoaded text n → m ≡ n
+  made_once : {m n : Made} → IsLoaded fuel depth text m → IsLoaded fuel depth text n → m ≡ n
   made_once {m = m} {n = n} a b =
       let one = loads_once a.reads a.made.loads b.reads b.made.loads in
       let ends : (a.made.known, m.signature) ≡ (b.made.known, n.signature) = ends_once (a.made.known, m.signature) (b.made.known, n.signature) one in
@@ -211,11 +298,11 @@ module _ (text : List ℕ) where
       let report : m.report ≡ n.report = a.made.report ∙ ap (λ (g : Signature Term). complete_report (length g)) signature ∙ sym b.made.report in
       λ i. record { report = report i; names = names i; signature = signature i }
 
-pub one_verdict : (text : List ℕ) (v w : Verdict) → HasVerdict text v → HasVerdict text w → v ≡ w
-one_verdict text (Err e) (Err f) a b = ap Err (errors_once text a b)
-one_verdict text (Err e) (Ok m) a b = absurd (not_both text a b)
-one_verdict text (Ok m) (Err e) a b = absurd (not_both text b a)
-one_verdict text (Ok m) (Ok n) a b = ap Ok (made_once text a b)
+pub one_verdict : (fuel depth : ℕ) (text : List ℕ) (v w : Verdict) → HasVerdict fuel depth text v → HasVerdict fuel depth text w → v ≡ w
+one_verdict fuel depth text (Err e) (Err f) a b = ap Err (errors_once fuel depth text a b)
+one_verdict fuel depth text (Err e) (Ok m) a b = absurd (not_both fuel depth text a b)
+one_verdict fuel depth text (Ok m) (Err e) a b = absurd (not_both fuel depth text b a)
+one_verdict fuel depth text (Ok m) (Ok n) a b = ap Ok (made_once fuel depth text a b)
 
-pub one_signature : (text : List ℕ) (m n : Made) → IsLoaded text m → IsLoaded text n → m.signature ≡ n.signature
-one_signature text m n a b = ap (λ (x : Made). x.signature) (made_once text a b)
+pub one_signature : (fuel depth : ℕ) (text : List ℕ) (m n : Made) → IsLoaded fuel depth text m → IsLoaded fuel depth text n → m.signature ≡ n.signature
+one_signature fuel depth text m n a b = ap (λ (x : Made). x.signature) (made_once fuel depth text a b)

@@ -1,10 +1,8 @@
-pub mod Accept
-pub mod Equal
-pub mod Inferred
 pub mod Judged
-pub mod Translated
+pub mod Kinds
+pub mod Lines
 pub mod Unbuilt
 pub mod Load
 pub mod LoadedFile
 pub mod Stages
-pub mod Refused
+pub mod Stops

@@ -32,12 +32,9 @@ use Rattle.session_text.specs.declared.error.LoadKind.{LoadKind}
 use Rattle.session_text.specs.declared.error.LoadKind.TheVariants as kind
 use Rattle.session_text.specs.declared.report.Report.{Report}
 use Rattle.file_load.specs.Unbuilt.{in_file}
-use Rattle.file_load.specs.Accept.{with_decl}
+use Rattle.file_load.specs.Lines.{DeclOf, error_at}
 
 -- ---- errors
-
-abbrev pub error_at : Pos → LoadKind → LoadError
-error_at p k = record { pos = p; kind = k; lines = [] }
 
 abbrev pub named_error : Pos → LoadKind → List ℕ → LoadError
 named_error p k x = record { pos = p; kind = k; lines = x ∷ [] }
@@ -106,18 +103,20 @@ pub data Reads (text : List ℕ) : Result File LoadError → Type 0 where
 abbrev pub Outcome : Type 0
 Outcome = Result (Known × Signature Term) LoadError
 
--- After k and the signature g: each declaration is resolved, and only then its types are judged in order.
-pub data Declares : Known → Signature Term → List Decl → Outcome → Type 0 where
-  none : {k : Known} {g : Signature Term} → Declares k g [] (Ok (k, g))
-  unresolved : {k : Known} {g : Signature Term} {d : Decl} {ds : List Decl} {p : Pos} {j : ScopeKind} {x : List ℕ}
-      → Resolves k d (Err (scope.Bad p j x)) → Declares k g (d ∷ ds) (Err (named_error p (scope_kind j) x))
-  refused : {k m : Known} {g : Signature Term} {d : Decl} {ds : List Decl} {r : Resolved}
-      → Resolves k d (Ok (r, m)) → with_decl g r ≡ None → Declares k g (d ∷ ds) (Err (error_at beginning kind.Refused))
-  declared : {k m : Known} {g h : Signature Term} {d : Decl} {ds : List Decl} {r : Resolved} {result : Outcome}
-      → Resolves k d (Ok (r, m)) → with_decl g r ≡ Some h → Declares m h ds result → Declares k g (d ∷ ds) result
+-- with this fuel for each head form, and to this depth in each comparison
+module _ (fuel depth : ℕ) where
+  -- After k and the signature g: each declaration is resolved whole, and only then judged.
+  pub data Declares : Known → Signature Term → List Decl → Outcome → Type 0 where
+    none : {k : Known} {g : Signature Term} → Declares k g [] (Ok (k, g))
+    unresolved : {k : Known} {g : Signature Term} {d : Decl} {ds : List Decl} {p : Pos} {j : ScopeKind} {x : List ℕ}
+        → Resolves k d (Err (scope.Bad p j x)) → Declares k g (d ∷ ds) (Err (named_error p (scope_kind j) x))
+    refused : {k m : Known} {g : Signature Term} {d : Decl} {ds : List Decl} {r : Resolved} {e : LoadError}
+        → Resolves k d (Ok (r, m)) → DeclOf fuel depth g r (Err e) → Declares k g (d ∷ ds) (Err e)
+    declared : {k m : Known} {g h : Signature Term} {d : Decl} {ds : List Decl} {r : Resolved} {result : Outcome}
+        → Resolves k d (Ok (r, m)) → DeclOf fuel depth g r (Ok h) → Declares m h ds result → Declares k g (d ∷ ds) result
 
-abbrev pub DeclaresFile : File → Outcome → Type 0
-DeclaresFile file result = Declares nothing_known [] file.decls result
+  abbrev pub DeclaresFile : File → Outcome → Type 0
+  DeclaresFile file result = Declares nothing_known [] file.decls result
 
 -- ---- the load
 
@@ -135,25 +134,26 @@ Verdict = Result Made LoadError
 abbrev pub complete_report : ℕ → Report
 complete_report n = record { complete = true; declarations = n; inserted = 0; goals = []; unsolved = []; suspended = []; shadowed = [] }
 
--- the first error of the text
-pub data IsInError (text : List ℕ) (e : LoadError) : Type 0 where
-  unread : Reads text (Err e) → IsInError text e
-  undeclared : {file : File} → Reads text (Ok file) → DeclaresFile file (Err e) → IsInError text e
+module _ (fuel depth : ℕ) where
+  -- the first error of the text
+  pub data IsInError (text : List ℕ) (e : LoadError) : Type 0 where
+    unread : Reads text (Err e) → IsInError text e
+    undeclared : {file : File} → Reads text (Ok file) → DeclaresFile fuel depth file (Err e) → IsInError text e
 
--- m is made of the declarations of a file
-pub record IsMade (file : File) (m : Made) : Type 0 where
-  pub known : Known
-  pub loads : DeclaresFile file (Ok (known, m.signature))
-  pub names : m.names ≡ known.names
-  pub report : m.report ≡ complete_report (length m.signature)
+  -- m is made of the declarations of a file
+  pub record IsMade (file : File) (m : Made) : Type 0 where
+    pub known : Known
+    pub loads : DeclaresFile fuel depth file (Ok (known, m.signature))
+    pub names : m.names ≡ known.names
+    pub report : m.report ≡ complete_report (length m.signature)
 
--- the text has no error, m is made of it, and the signature is derivable
-pub record IsLoaded (text : List ℕ) (m : Made) : Type 0 where
-  pub file : File
-  pub reads : Reads text (Ok file)
-  pub made : IsMade file m
-  pub derivable : Derivable m.signature
+  -- the text has no error, m is made of it, and the signature is derivable
+  pub record IsLoaded (text : List ℕ) (m : Made) : Type 0 where
+    pub file : File
+    pub reads : Reads text (Ok file)
+    pub made : IsMade file m
+    pub derivable : Derivable m.signature
 
-abbrev pub HasVerdict : List ℕ → Verdict → Type 0
-HasVerdict text (Err e) = IsInError text e
-HasVerdict text (Ok m) = IsLoaded text m
+  abbrev pub HasVerdict : List ℕ → Verdict → Type 0
+  HasVerdict text (Err e) = IsInError text e
+  HasVerdict text (Ok m) = IsLoaded text m

@@ -26,13 +26,14 @@ signature_of f = f.signature
 abbrev pub made_of : LoadedFile → Made
 made_of f = record { report = report_of f; names = names_of f; signature = signature_in (pool_of f) (signature_of f) }
 
--- f is what was made of the text, and the ids of its signature stand in its pool
-pub record IsDone (text : List ℕ) (f : LoadedFile) : Type 0 where
-  pub verdict : HasVerdict text (Ok (made_of f))
-  pub stands : Stands (pool_of f) (signature_of f)
+module _ (fuel depth : ℕ) where
+  -- f is what was made of the text, and the ids of its signature stand in its pool
+  pub record IsDone (text : List ℕ) (f : LoadedFile) : Type 0 where
+    pub verdict : HasVerdict fuel depth text (Ok (made_of f))
+    pub stands : Stands (pool_of f) (signature_of f)
 
--- the answer is what is said of the text, unless memory ran out
-abbrev pub Answers : List ℕ → Loaded → Type 0
-Answers text (answer.Error e) = HasVerdict text (Err e)
-Answers text (answer.Done f) = IsDone text f
-Answers text answer.NoMemory = ⊤
+  -- the answer is what is said of the text, unless memory ran out
+  abbrev pub Answers : List ℕ → Loaded → Type 0
+  Answers text (answer.Error e) = HasVerdict fuel depth text (Err e)
+  Answers text (answer.Done f) = IsDone text f
+  Answers text answer.NoMemory = ⊤

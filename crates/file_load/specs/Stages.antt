@@ -22,13 +22,14 @@ IsError (answer.Error e) f = e ≡ f
 IsError (answer.Done x) f = ⊥
 IsError answer.NoMemory f = ⊤
 
--- the file was loaded
-pub record IsFileDone (file : File) (f : LoadedFile) : Type 0 where
-  pub made : IsMade file (made_of f)
-  pub stands : Stands (pool_of f) (signature_of f)
+module _ (fuel depth : ℕ) where
+  -- the file was loaded
+  pub record IsFileDone (file : File) (f : LoadedFile) : Type 0 where
+    pub made : IsMade fuel depth file (made_of f)
+    pub stands : Stands (pool_of f) (signature_of f)
 
--- the answer to a file all of whose forms are built
-abbrev pub FileAnswers : File → Loaded → Type 0
-FileAnswers file (answer.Error e) = DeclaresFile file (Err e)
-FileAnswers file (answer.Done f) = IsFileDone file f
-FileAnswers file answer.NoMemory = ⊤
+  -- the answer to a file all of whose forms are built
+  abbrev pub FileAnswers : File → Loaded → Type 0
+  FileAnswers file (answer.Error e) = DeclaresFile fuel depth file (Err e)
+  FileAnswers file (answer.Done f) = IsFileDone file f
+  FileAnswers file answer.NoMemory = ⊤

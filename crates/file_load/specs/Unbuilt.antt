@@ -18,13 +18,29 @@ abbrev pub first_of : List (Option ℕ) → Option ℕ
 first_of [] = None
 first_of (o ∷ os) = or_else o (first_of os)
 
--- Built are: names, `Set` with its level, function types and `∀` over explicit binders with a type, arrows, and applications to plain
--- arguments. Any other form begins with its own first token: a qualified name, `λ`, `record`, a hole, `_`, the brace of a binder or
--- argument, the dot of a projection, and the name of a binder without a type.
-abbrev pub expr_step : Expr-F (Option ℕ) (Option ℕ) (Option ℕ) (Option ℕ) → Option ℕ
-expr_step (Expr-F.Pi p bs b) = or_else (first_of bs) b
-expr_step (Expr-F.Forall p bs b) = or_else (first_of bs) b
-expr_step (Expr-F.Lambda p bs b) = Some p.span.start
+-- the first that f finds
+abbrev pub first_by : {A : Type 0} → (A → Option ℕ) → List A → Option ℕ
+first_by f [] = None
+first_by f (x ∷ xs) = or_else (f x) (first_by f xs)
+
+-- Built are: names, `Set` with its level, function types and `∀` over explicit binders with a type, `λ` over explicit binders with or
+-- without a type, arrows, and applications to plain arguments. Any other form begins with its own first token: a qualified name, `record`,
+-- a hole, `_` but as a binder of `λ`, the brace of a binder or argument, the dot of a projection, and the name of a binder of `∀` without
+-- a type.
+pub record InBinder : Type 0 where
+  pub in_function_type : Option ℕ
+  pub in_lambda : Option ℕ
+
+abbrev pub of_function_type : InBinder → Option ℕ
+of_function_type o = o.in_function_type
+
+abbrev pub of_lambda : InBinder → Option ℕ
+of_lambda o = o.in_lambda
+
+abbrev pub expr_step : Expr-F (Option ℕ) InBinder (Option ℕ) (Option ℕ) → Option ℕ
+expr_step (Expr-F.Pi p bs b) = or_else (first_by of_function_type bs) b
+expr_step (Expr-F.Forall p bs b) = or_else (first_by of_function_type bs) b
+expr_step (Expr-F.Lambda p bs b) = or_else (first_by of_lambda bs) b
 expr_step (Expr-F.Arrow p a b) = or_else a b
 expr_step (Expr-F.App p f xs) = or_else f (first_of xs)
 expr_step (Expr-F.«Expr::Name» x) = None
@@ -34,32 +50,35 @@ expr_step (Expr-F.Hole p) = Some p.span.start
 expr_step (Expr-F.«Expr::Underscore» p) = Some p.span.start
 expr_step (Expr-F.Record p fs) = Some p.span.start
 
-abbrev pub arg_step : Arg-F (Option ℕ) (Option ℕ) (Option ℕ) (Option ℕ) → Option ℕ
+abbrev pub arg_step : Arg-F (Option ℕ) InBinder (Option ℕ) (Option ℕ) → Option ℕ
 arg_step (Arg-F.Plain e) = e
 arg_step (Arg-F.«Arg::Implicit» p e) = Some p.span.start
 arg_step (Arg-F.Named p x e) = Some p.span.start
 arg_step (Arg-F.Project p x) = Some p.span.start
 arg_step (Arg-F.ProjectQualified p x) = Some p.span.start
 
-abbrev pub binder_step : Binder-F (Option ℕ) (Option ℕ) (Option ℕ) (Option ℕ) → Option ℕ
-binder_step (Binder-F.Explicit p xs a) = a
-binder_step (Binder-F.«Binder::Implicit» p xs a) = Some p.span.start
-binder_step (Binder-F.«Binder::Name» x) = Some x.place.span.start
-binder_step (Binder-F.Braced p x) = Some p.span.start
-binder_step (Binder-F.«Binder::Underscore» p) = Some p.span.start
+abbrev pub at_both : Option ℕ → InBinder
+at_both o = record { in_function_type = o; in_lambda = o }
+
+abbrev pub binder_step : Binder-F (Option ℕ) InBinder (Option ℕ) (Option ℕ) → InBinder
+binder_step (Binder-F.Explicit p xs a) = at_both a
+binder_step (Binder-F.«Binder::Implicit» p xs a) = at_both (Some p.span.start)
+binder_step (Binder-F.«Binder::Name» x) = record { in_function_type = Some x.place.span.start; in_lambda = None }
+binder_step (Binder-F.Braced p x) = at_both (Some p.span.start)
+binder_step (Binder-F.«Binder::Underscore» p) = record { in_function_type = Some p.span.start; in_lambda = None }
 
 -- a field stands in `record { .. }` alone
-abbrev pub value_step : FieldValue-F (Option ℕ) (Option ℕ) (Option ℕ) (Option ℕ) → Option ℕ
+abbrev pub value_step : FieldValue-F (Option ℕ) InBinder (Option ℕ) (Option ℕ) → Option ℕ
 value_step v = v.value
 
 unfoldable pub in_expr : Expr → Option ℕ
-in_expr = fold-Expr (Option ℕ) (Option ℕ) (Option ℕ) (Option ℕ) arg_step binder_step expr_step value_step
+in_expr = fold-Expr (Option ℕ) InBinder (Option ℕ) (Option ℕ) arg_step binder_step expr_step value_step
 
 unfoldable pub in_arg : Arg → Option ℕ
-in_arg = fold-Arg (Option ℕ) (Option ℕ) (Option ℕ) (Option ℕ) arg_step binder_step expr_step value_step
+in_arg = fold-Arg (Option ℕ) InBinder (Option ℕ) (Option ℕ) arg_step binder_step expr_step value_step
 
-unfoldable pub in_binder : Binder → Option ℕ
-in_binder = fold-Binder (Option ℕ) (Option ℕ) (Option ℕ) (Option ℕ) arg_step binder_step expr_step value_step
+unfoldable pub in_binder : Binder → InBinder
+in_binder = fold-Binder (Option ℕ) InBinder (Option ℕ) (Option ℕ) arg_step binder_step expr_step value_step
 
 -- ---- declarations: of these `postulate` is built
 

@@ -1,4 +1,5 @@
 ghost use Rattle.std.specs.Prelude.{◌≡◌, IfOk};
+ghost use Rattle.file_load.specs.Lines.{error_at as told_at};
 ghost use Rattle.file_load.specs.Load as spec;
 
 use el_outside::{Many, NoMemory, Pos, Text};
@@ -7,7 +8,7 @@ use std::alloc::Global;
 
 /// An error without lines.
 pub fn error_at(alloc: Global, pos: Pos, kind: LoadKind) -> LoadError
-    ensures { result ≡ spec.error_at pos kind }
+    ensures { result ≡ told_at pos kind }
 {
     LoadError {
         pos,

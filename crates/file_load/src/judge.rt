@@ -1,19 +1,26 @@
 //! Declarations: each is resolved, and then its types are judged.
 
-ghost use Rattle.std.specs.Prelude.{◌≡◌, ◌++◌, IfOk, OnOk};
-ghost use Rattle.file_load.specs.Accept.{with_decl, with_line, with_lines};
-ghost use Rattle.file_load.specs.Judged.{Agrees, Judges, LoadsDecl, LoadsDecls, declared, postulates_of};
+ghost use Rattle.std.specs.Prelude.{◌≡◌, ◌<◌, ◌++◌, length, OnOk};
+ghost use Rattle.core_rules.specs.InScope.{InScope, any_meta};
+ghost use Rattle.core_rules.specs.Derivable.{Derivable};
+ghost use Rattle.term_pool.specs.Pool.{Extends, tree};
+ghost use Rattle.core_terms.specs.Signature.{Stands, signature_in};
+ghost use Rattle.file_load.specs.Lines.{DeclOf, LineOf, LinesOf};
+ghost use Rattle.file_load.specs.Judged.{Agrees, Checks, Elaborates, IsNotResolved, Judges, JudgesType, LoadsDecl, LoadsDecls, Measures, declared, postulates_of};
 ghost use Rattle.file_load.specs.Load as spec;
 
 use crate::errors::{error_at, named_error};
-use crate::infer::is_type;
 use crate::state::Core;
-use crate::translate::translate;
-use core_terms::{CoreDecl, NoMemory, Signature, TermId};
-use el_outside::Pos;
+use crate::stop::{Stop, not_checked, not_elaborated};
+use core_kernel::is_type;
+use core_terms::{
+    CoreDecl, Count, Limits, NoMemory, Row, Signature, Telescope, TermId, TermPool, count_nodes,
+};
+use elab_machine::type_written;
 use scope_check::{Resolved, ResolvedName, ResolvedSignature, ScopeError, ScopeKind, resolve};
-use session_text::{LoadError, LoadKind};
+use session_text::LoadKind;
 use source_tree::Decl;
+use std::alloc::Global;
 
 /// The error of a name.
 fn scope_kind(kind: ScopeKind) -> LoadKind
@@ -38,81 +45,149 @@ fn postulate(signature: &mut Signature, names: &[ResolvedName], ty: TermId) -> R
     Ok(())
 }
 
-/// Judges the type of a line, once for all its names, and declares them. The answer says whether it
-/// is accepted.
-fn declare(core: &mut Core, line: &ResolvedSignature) -> Result<bool, NoMemory>
-    requires { Agrees core.old }
-    ensures { IfOk result (Judges core.old core.new (with_line (declared core.old) line.now)) }
+/// The term of a line's type, by the written rules.
+fn elaborate(
+    alloc: Global,
+    pool: &mut TermPool,
+    signature: &Signature,
+    line: &ResolvedSignature,
+    limits: Limits,
+) -> Result<TermId, Stop>
+    requires stands { Stands pool.old signature.now }
+    ensures extends { Extends pool.old pool.new }
+    ensures elaborated { Elaborates (signature_in pool.old signature.now) limits.fuel limits.depth line.now pool.new result }
 {
-    let Some(ty) = translate(core.alloc, &mut core.pool, &line.ty)? else {
-        return Ok(false);
-    };
-    if !is_type(core.alloc, &mut core.pool, &core.signature, ty)? {
-        return Ok(false);
+    match type_written(alloc, pool, signature, &[], &line.ty, limits) {
+        Ok(typed) => Ok(typed.0),
+        Err(error) => Err(not_elaborated(alloc, error)),
     }
-    postulate(&mut core.signature, line.names.as_slice(), ty)?;
-    Ok(true)
 }
 
-/// Judges the lines of a block in order. The answer says whether all are accepted.
-fn declare_lines(core: &mut Core, lines: &[ResolvedSignature]) -> Result<bool, NoMemory>
+/// A term may have as many nodes and levels as a declaration may have.
+fn measure(alloc: Global, pool: &TermPool, line: &ResolvedSignature, ty: TermId) -> Result<(), Stop>
+    requires { ty < length pool.now.trees }
+    ensures { Measures line.now (tree pool.now ty) result }
+{
+    match count_nodes(pool, ty)? {
+        Count::TooLarge => Err(Stop::Error(error_at(alloc, line.place.pos, LoadKind::TooLarge))),
+        Count::Within { .. } => Ok(()),
+    }
+}
+
+/// The kernel takes the type of a line for a type.
+fn check(
+    alloc: Global,
+    pool: &mut TermPool,
+    signature: &Signature,
+    line: &ResolvedSignature,
+    ty: TermId,
+    limits: Limits,
+) -> Result<(), Stop>
+    requires stands { Stands pool.old signature.now }
+    requires ty { ty < length pool.old.trees }
+    requires scope { InScope (signature_in pool.old signature.now) any_meta 0 (tree pool.old ty) }
+    ensures extends { Extends pool.old pool.new }
+    ensures checked { Checks (signature_in pool.old signature.now) limits.fuel limits.depth line.now (tree pool.old ty) result }
+{
+    let nothing = Telescope {
+        entries: Row::from_vec(Vec::new(alloc)),
+    };
+    match is_type(alloc, pool, signature, &nothing, ty, limits) {
+        Ok(_) => Ok(()),
+        Err(error) => Err(not_checked(alloc, line.place.pos, error)),
+    }
+}
+
+/// The type of a line: elaborated, measured, and checked by the kernel.
+fn judge_type(
+    alloc: Global,
+    pool: &mut TermPool,
+    signature: &Signature,
+    line: &ResolvedSignature,
+    limits: Limits,
+) -> Result<TermId, Stop>
+    requires stands { Stands pool.old signature.now }
+    requires derivable { Derivable (signature_in pool.old signature.now) }
+    ensures extends { Extends pool.old pool.new }
+    ensures judged { JudgesType (signature_in pool.old signature.now) line.now.names pool.new
+        (LineOf limits.fuel limits.depth (signature_in pool.old signature.now) line.now) result }
+{
+    let ty = elaborate(alloc, pool, signature, line, limits)?;
+    measure(alloc, pool, line, ty)?;
+    check(alloc, pool, signature, line, ty, limits)?;
+    Ok(ty)
+}
+
+/// Judges the type of a line, once for all its names, and declares them.
+fn declare(core: &mut Core, line: &ResolvedSignature, limits: Limits) -> Result<(), Stop>
     requires { Agrees core.old }
-    ensures { IfOk result (Judges core.old core.new (with_lines (declared core.old) lines.now)) }
+    ensures { Judges core.old core.new (LineOf limits.fuel limits.depth (declared core.old) line.now) result }
+{
+    let ty = judge_type(core.alloc, &mut core.pool, &core.signature, line, limits)?;
+    postulate(&mut core.signature, line.names.as_slice(), ty)?;
+    Ok(())
+}
+
+/// Judges the lines of a block in order.
+fn declare_lines(core: &mut Core, lines: &[ResolvedSignature], limits: Limits) -> Result<(), Stop>
+    requires { Agrees core.old }
+    ensures { Judges core.old core.new (LinesOf limits.fuel limits.depth (declared core.old) lines.now) result }
 {
     for line in lines {
-        if !declare(core, line)? {
-            return Ok(false);
-        }
+        declare(core, line, limits)?;
     }
-    Ok(true)
+    Ok(())
 }
 
-/// Judges a declaration that is resolved. The answer says whether it is accepted.
-fn judge(core: &mut Core, decl: &Resolved) -> Result<bool, NoMemory>
+/// Judges a declaration that is resolved.
+fn judge(core: &mut Core, decl: &Resolved, limits: Limits) -> Result<(), Stop>
     requires { Agrees core.old }
-    ensures { IfOk result (Judges core.old core.new (with_decl (declared core.old) decl.now)) }
+    ensures { Judges core.old core.new (DeclOf limits.fuel limits.depth (declared core.old) decl.now) result }
 {
     match decl {
-        Resolved::Postulate(_, lines) => declare_lines(core, lines.as_slice()),
-        Resolved::Function(_, _, _)
-        | Resolved::Open(_, _, _)
-        | Resolved::Data(_, _, _, _, _)
-        | Resolved::Record(_, _, _, _, _) => Ok(false),
-    }
-}
-
-/// Resolves a declaration, and then judges it. The answer is the error, if there is one.
-fn load_decl(core: &mut Core, decl: &Decl) -> Result<Option<LoadError>, NoMemory>
-    requires { Agrees core.old }
-    ensures { IfOk result (LoadsDecl core.old core.new decl.now) }
-{
-    let resolved = match resolve(core.alloc, &mut core.scope, decl) {
-        Ok(resolved) => resolved,
-        Err(ScopeError::NoMemory) => return Err(NoMemory),
-        Err(ScopeError::Bad { pos, kind, name }) => {
-            let Ok(error) = named_error(core.alloc, pos, scope_kind(kind), name) else {
-                return Err(NoMemory);
-            };
-            return Ok(Some(error));
+        Resolved::Postulate(_, lines) => declare_lines(core, lines.as_slice(), limits),
+        Resolved::Function(place, _, _)
+        | Resolved::Open(place, _, _)
+        | Resolved::Data(place, _, _, _, _)
+        | Resolved::Record(place, _, _, _, _) => {
+            Err(Stop::Error(error_at(core.alloc, place.pos, LoadKind::Unsupported)))
         }
-    };
-    if judge(core, &resolved)? {
-        Ok(None)
-    } else {
-        let beginning = Pos { line: 1, col: 1 };
-        Ok(Some(error_at(core.alloc, beginning, LoadKind::Refused)))
     }
 }
 
-/// Resolves and judges the declarations in order. The answer is the first error, if there is one.
-pub fn load_decls(core: &mut Core, decls: &[Decl]) -> Result<Option<LoadError>, NoMemory>
+/// The error of a name that is refused.
+fn not_resolved(alloc: Global, error: ScopeError) -> Stop
+    ensures { IsNotResolved error result }
+{
+    match error {
+        ScopeError::Bad { pos, kind, name } => {
+            match named_error(alloc, pos, scope_kind(kind), name) {
+                Ok(error) => Stop::Error(error),
+                Err(_) => Stop::NoMemory,
+            }
+        }
+        ScopeError::NoMemory => Stop::NoMemory,
+    }
+}
+
+/// Resolves a declaration, and then judges it.
+fn load_decl(core: &mut Core, decl: &Decl, limits: Limits) -> Result<(), Stop>
     requires { Agrees core.old }
-    ensures { IfOk result (LoadsDecls core.old core.new decls.now) }
+    ensures { LoadsDecl limits.fuel limits.depth core.old core.new decl.now result }
+{
+    match resolve(core.alloc, &mut core.scope, decl) {
+        Ok(resolved) => judge(core, &resolved, limits),
+        Err(error) => Err(not_resolved(core.alloc, error)),
+    }
+}
+
+/// Resolves and judges the declarations in order.
+pub fn load_decls(core: &mut Core, decls: &[Decl], limits: Limits) -> Result<(), Stop>
+    requires { Agrees core.old }
+    ensures { LoadsDecls limits.fuel limits.depth core.old core.new decls.now result }
 {
     for decl in decls {
-        if let Some(error) = load_decl(core, decl)? {
-            return Ok(Some(error));
-        }
+        load_decl(core, decl, limits)?;
     }
-    Ok(None)
+    Ok(())
 }

@@ -1,15 +1,14 @@
-//! The load of a text: its stages in order, the walk over its declarations, and its first error. By what the types of
-//! terms are judged today is private beside it.
+//! The load of a text: its stages in order, the walk over its declarations, and its first error. The type of a declaration is elaborated
+//! by the written rules, measured, and checked by the kernel.
 #![tactic(auto)]
 
 mod errors;
-mod infer;
 mod judge;
 pub mod laws;
 mod loaded_file;
 mod stages;
 mod state;
-mod translate;
+mod stop;
 mod unbuilt;
 
 pub use loaded_file::{Loaded, LoadedFile};

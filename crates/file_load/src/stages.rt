@@ -4,6 +4,7 @@ ghost use Rattle.std.specs.Prelude.{◌≡◌, ◌≤◌, ◌+◌, ◌^◌, leng
 ghost use Rattle.std.specs.Str.{chars};
 ghost use Rattle.el_outside.specs.Place.{end_of as end_place, pos as pos_at, start};
 ghost use Rattle.agda_layout.specs.Blocks as layout;
+ghost use Rattle.file_load.specs.Lines.{error_at as told_at};
 ghost use Rattle.file_load.specs.Load as spec;
 ghost use Rattle.file_load.specs.Load.{IsLexed, limit};
 ghost use Rattle.file_load.specs.LoadedFile.{Answers};
@@ -14,6 +15,7 @@ use crate::errors::error_at;
 use crate::judge::load_decls;
 use crate::loaded_file::{Loaded, LoadedFile};
 use crate::state::Core;
+use crate::stop::Stop;
 use crate::unbuilt::first_unbuilt;
 use agda_layout::{Laid, LayoutError, lay_out};
 use agda_lexer::laws::lexed_tokens_rise;
@@ -126,14 +128,14 @@ fn read_text(alloc: Global, text: &str) -> Result<Reading, NoMemory>
 }
 
 /// Loads a file whose forms are all built.
-fn load_file(alloc: Global, file: &File) -> Loaded
-    ensures { FileAnswers file.now result }
+fn load_file(alloc: Global, file: &File, limits: Limits) -> Loaded
+    ensures { FileAnswers limits.fuel limits.depth file.now result }
 {
     let Ok(mut core) = Core::new(alloc) else {
         return Loaded::NoMemory;
     };
-    match load_decls(&mut core, file.decls.as_slice()) {
-        Ok(None) => {
+    match load_decls(&mut core, file.decls.as_slice(), limits) {
+        Ok(()) => {
             let Core {
                 scope,
                 pool,
@@ -142,15 +144,15 @@ fn load_file(alloc: Global, file: &File) -> Loaded
             } = core;
             Loaded::Done(LoadedFile::new(alloc, scope, pool, signature))
         }
-        Ok(Some(error)) => Loaded::Error(error),
-        Err(_) => Loaded::NoMemory,
+        Err(Stop::Error(error)) => Loaded::Error(error),
+        Err(Stop::NoMemory) => Loaded::NoMemory,
     }
 }
 
 /// Loads a text that is short enough.
-fn load_text(alloc: Global, text: &str) -> Loaded
+fn load_text(alloc: Global, text: &str, limits: Limits) -> Loaded
     requires { length text.now ≤ limit }
-    ensures { Answers text.now result }
+    ensures { Answers limits.fuel limits.depth text.now result }
 {
     let file = match read_text(alloc, text) {
         Ok(Reading::File(file)) => file,
@@ -161,14 +163,14 @@ fn load_text(alloc: Global, text: &str) -> Loaded
         Some(byte) => {
             Loaded::Error(error_at(alloc, place_of(text, byte), LoadKind::Unsupported))
         }
-        None => load_file(alloc, &file),
+        None => load_file(alloc, &file, limits),
     }
 }
 
 /// The error of bytes that are UTF-8 up to here.
 fn not_utf8(alloc: Global, front: &str) -> Loaded
     requires { length front.now + 2 ≤ 2 ^ 32 }
-    ensures { IsError result (spec.error_at (pos_at (end_place (start (chars front.now)))) kind.NotUtf8) }
+    ensures { IsError result (told_at (pos_at (end_place (start (chars front.now)))) kind.NotUtf8) }
 {
     match end_of(alloc, front) {
         Ok(pos) => Loaded::Error(error_at(alloc, pos, LoadKind::NotUtf8)),
@@ -176,15 +178,15 @@ fn not_utf8(alloc: Global, front: &str) -> Loaded
     }
 }
 
-/// Loads a text. The limits are those of head forms, conversions and moves, of which there are none so far.
-pub fn load(alloc: Global, text: &[u8], _limits: Limits) -> Loaded
-    ensures { Answers text.now result }
+/// Loads a text, with these limits for each head form and each comparison.
+pub fn load(alloc: Global, text: &[u8], limits: Limits) -> Loaded
+    ensures { Answers limits.fuel limits.depth text.now result }
 {
     if text.len() > LIMIT {
         return Loaded::Error(error_at(alloc, Pos { line: 1, col: 1 }, LoadKind::TextTooLong));
     }
     match str::from_utf8(text) {
-        Ok(text) => load_text(alloc, text),
+        Ok(text) => load_text(alloc, text, limits),
         Err(e) => {
             let front = match str::from_utf8(&text[..e.valid_up_to()]) {
                 Ok(front) => front,

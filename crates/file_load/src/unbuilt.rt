@@ -62,6 +62,10 @@ fn in_expr(found: &Expr) -> Option<u32>
                 None => in_expr(body.get()),
             }
         }
+        Expr::Lambda(_, binders, body) => match in_lambda(binders.as_slice()) {
+            Some(at) => Some(at),
+            None => in_expr(body.get()),
+        },
         Expr::Arrow(_, dom, cod) => match in_expr(dom.get()) {
             Some(at) => Some(at),
             None => in_expr(cod.get()),
@@ -74,10 +78,9 @@ fn in_expr(found: &Expr) -> Option<u32>
             }
         }
         Expr::Name(_) | Expr::SetLevel(_, _) => None,
-        Expr::Lambda(place, _, _)
-        | Expr::Hole(place)
-        | Expr::Underscore(place)
-        | Expr::Record(place, _) => Some(place.span.start),
+        Expr::Hole(place) | Expr::Underscore(place) | Expr::Record(place, _) => Some(
+            place.span.start,
+        ),
         Expr::Qualified(name) => Some(name.place.span.start),
     }
 }
@@ -96,17 +99,31 @@ fn in_arg(found: &Arg) -> Option<u32>
     }
 }
 
+/// In a binder of a function type or of `∀`.
 #[cycle(unbuilt)]
 #[tactic(auto, unfolding(crate::specs::Unbuilt::in_expr, crate::specs::Unbuilt::in_arg, crate::specs::Unbuilt::in_binder))]
-fn in_binder(found: &Binder) -> Option<u32>
-    ensures { result ≡ spec.in_binder found.now }
+fn in_binder(binder: &Binder) -> Option<u32>
+    ensures { result ≡ spec.of_function_type (spec.in_binder binder.now) }
 {
-    match found {
+    match binder {
         Binder::Explicit(_, _, ty) => in_expr(ty.get()),
         Binder::Implicit(place, _, _) | Binder::Braced(place, _) | Binder::Underscore(place) => {
             Some(place.span.start)
         }
         Binder::Name(name) => Some(name.place.span.start),
+    }
+}
+
+/// In a binder of `λ`, which may have no type.
+#[cycle(unbuilt)]
+#[tactic(auto, unfolding(crate::specs::Unbuilt::in_expr, crate::specs::Unbuilt::in_arg, crate::specs::Unbuilt::in_binder))]
+fn in_lambda_binder(binder: &Binder) -> Option<u32>
+    ensures { result ≡ spec.of_lambda (spec.in_binder binder.now) }
+{
+    match binder {
+        Binder::Explicit(_, _, ty) => in_expr(ty.get()),
+        Binder::Implicit(place, _, _) | Binder::Braced(place, _) => Some(place.span.start),
+        Binder::Name(_) | Binder::Underscore(_) => None,
     }
 }
 
@@ -124,10 +141,22 @@ fn in_args(args: &[Arg]) -> Option<u32>
 
 #[cycle(unbuilt)]
 fn in_binders(binders: &[Binder]) -> Option<u32>
-    ensures { result ≡ spec.first_of (map spec.in_binder binders.now) }
+    ensures { result ≡ spec.first_by spec.of_function_type (map spec.in_binder binders.now) }
 {
     for binder in binders {
         if let Some(at) = in_binder(binder) {
+            return Some(at);
+        }
+    }
+    None
+}
+
+#[cycle(unbuilt)]
+fn in_lambda(binders: &[Binder]) -> Option<u32>
+    ensures { result ≡ spec.first_by spec.of_lambda (map spec.in_binder binders.now) }
+{
+    for binder in binders {
+        if let Some(at) = in_lambda_binder(binder) {
             return Some(at);
         }
     }

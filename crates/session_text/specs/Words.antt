@@ -58,7 +58,6 @@ last_word kind.NotAType = codes "NotAType"
 last_word kind.Missing = codes "Missing"
 last_word (kind.Kernel k) = kernel_word k
 last_word kind.Unsupported = codes "Unsupported"
-last_word kind.Refused = codes "Refused"
 
 -- the words of a kind
 abbrev pub kind_words : LoadKind → List ℕ

@@ -60,8 +60,6 @@ pub enum LoadKind {
     Kernel(KernelKind),
     /// A form that is not built so far.
     Unsupported,
-    /// A type that is not accepted, for a reason that is not told so far.
-    Refused,
 }
 
 /// The first error of a text: its place, why, and its lines, which are printed after two spaces each. They are the
@@ -144,7 +142,6 @@ impl LoadKind {
             LoadKind::Missing => "Missing",
             LoadKind::Kernel(kind) => kind.word(),
             LoadKind::Unsupported => "Unsupported",
-            LoadKind::Refused => "Refused",
         }
     }
 }

@@ -1,5 +1,5 @@
 use Rattle.std.proofs.Common.{◌≡◌, drop}
-use Rattle.file_load.specs.Accept.{with_lines}
+use Rattle.file_load.specs.Lines.{Judgement, LinesOf}
 use Rattle.file_load.specs.Judged.{Agrees, declared}
 use Rattle.file_load.proofs.judge.declare_lines.Given as goal
 
@@ -7,5 +7,5 @@ abbrev pub invariant-loop-line : goal.invariant-loop-line
 invariant-loop-line l = record {
   agrees : Agrees l.core;
   scope : l.core.scope ≡ l.fn.core.scope;
-  left : with_lines (declared l.fn.core) l.lines ≡ with_lines (declared l.core) (drop l.line-index l.lines);
+  left : (j : Judgement) → LinesOf l.limits.fuel l.limits.depth (declared l.core) (drop l.line-index l.lines) j → LinesOf l.limits.fuel l.limits.depth (declared l.fn.core) l.lines j;
 }

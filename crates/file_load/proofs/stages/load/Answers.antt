@@ -1,7 +1,7 @@
 use Rattle.std.proofs.Common.{◌≡◌, take, sym, subst, rules, arith}
 use Rattle.std.proofs.lemmas.Grind.{common_steps}
 use Rattle.std.specs.Str.{IsValidUpTo}
-use Rattle.file_load.specs.Load as spec
+use Rattle.file_load.specs.Lines.{error_at as told_at}
 use Rattle.file_load.specs.Load.{IsInError, Reads}
 use Rattle.file_load.specs.Stages.{IsError}
 use Rattle.session_text.specs.declared.error.LoadKind.TheVariants as kind
@@ -18,5 +18,5 @@ returns-in-Ok-from_utf8 c =
     let n = c.valid_up_to.result in
     let front : c.in-Ok-from_utf8.front.now ≡ take n text = first_of (search rules, grind (arith, common_steps)) in
     let valid : IsValidUpTo text n = subst (IsValidUpTo text) (sym c.valid_up_to.ensures) c.in-Err.ensures.cases.1 in
-    let error : IsError c.not_utf8.result (spec.error_at (pos_of text n) kind.NotUtf8) = rw front at c.not_utf8.ensures in
-    is_error text c.not_utf8.result (spec.error_at (pos_of text n) kind.NotUtf8) (Reads.not_utf8 {n = n} (omega (arith, c.if-text-gt-LIMIT.false)) valid) error
+    let error : IsError c.not_utf8.result (told_at (pos_of text n) kind.NotUtf8) = rw front at c.not_utf8.ensures in
+    is_error c.args.limits.fuel c.args.limits.depth text c.not_utf8.result (told_at (pos_of text n) kind.NotUtf8) (Reads.not_utf8 {n = n} (omega (arith, c.if-text-gt-LIMIT.false)) valid) error

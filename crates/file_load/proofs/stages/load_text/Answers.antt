@@ -14,4 +14,4 @@ pub returns : goal.returns
 returns c =
     let parsed : IsParsed c.args.text.now (Ok c.in-Ok-File.file) = rw c.in-Ok-File.field-0-is at c.in-Ok-File.ensures in
     let is : in_file c.in-Ok-File.file ≡ None = sym c.first_unbuilt.ensures ∙ c.in-None.is in
-    answers_of c.args.text.now c.in-Ok-File.file c.load_file.result (Reads.built parsed is) c.load_file.ensures
+    answers_of c.args.limits.fuel c.args.limits.depth c.args.text.now c.in-Ok-File.file c.load_file.result (Reads.built parsed is) c.load_file.ensures

@@ -1,7 +1,7 @@
 use Rattle.std.proofs.Common.{◌∙◌, rules, arith}
 use Rattle.std.proofs.lemmas.Grind.{common_steps}
 use Rattle.file_load.specs.Unbuilt as spec
-use Rattle.file_load.proofs.Firsts.{first_next}
+use Rattle.file_load.proofs.Firsts.{first_by_next, first_next}
 use Rattle.file_load.proofs.unbuilt.+unbuilt.Goals as goal
 
 pub in_args-returns-in-Some : goal.in_args-returns-in-Some
@@ -11,5 +11,10 @@ in_args-returns-in-Some t c =
 
 pub in_binders-returns-in-Some : goal.in_binders-returns-in-Some
 in_binders-returns-in-Some t c =
-    let e = c.loop-binder.invariant ∙ first_next spec.in_binder c.args.binders.now c.loop-binder.binder-index c.binder-item.result c.loop-binder-test.true c.binder-item.is in
+    let e = c.loop-binder.invariant ∙ first_by_next spec.in_binder spec.of_function_type c.args.binders.now c.loop-binder.binder-index c.binder-item.result c.loop-binder-test.true c.binder-item.is in
+    first_of (search rules, grind (arith, common_steps))
+
+pub in_lambda-returns-in-Some : goal.in_lambda-returns-in-Some
+in_lambda-returns-in-Some t c =
+    let e = c.loop-binder.invariant ∙ first_by_next spec.in_binder spec.of_lambda c.args.binders.now c.loop-binder.binder-index c.binder-item.result c.loop-binder-test.true c.binder-item.is in
     first_of (search rules, grind (arith, common_steps))

@@ -1,1 +1,1 @@
-{- λ -} postulate é : (λ x → x)
+{- λ -} postulate é : (_)

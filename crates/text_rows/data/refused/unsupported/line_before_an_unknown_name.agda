@@ -1,3 +1,3 @@
 postulate
   x : C
-  y : λ a → a
+  y : _ → x

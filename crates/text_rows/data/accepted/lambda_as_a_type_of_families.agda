@@ -1,0 +1,5 @@
+postulate
+  Nat : Set
+  z : Nat
+  P : (Nat → Set) → Set
+  w : P (λ n → Nat → Nat)

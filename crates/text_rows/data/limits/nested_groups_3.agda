@@ -1,0 +1,2 @@
+postulate
+  f : (x x : (x x : (x x : Set) → Set) → Set) → Set

@@ -1,0 +1,4 @@
+postulate
+  Nat : Set
+  R : Nat → Set
+  w : R

@@ -1,0 +1,4 @@
+postulate
+  Nat : Set
+  T : (Nat → Nat) → Set
+  w : T (λ x y → x)

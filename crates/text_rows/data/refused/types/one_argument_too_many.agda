@@ -1,0 +1,5 @@
+postulate
+  Nat : Set
+  z : Nat
+  R : Nat → Set
+  w : R z z

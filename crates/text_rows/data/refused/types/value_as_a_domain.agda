@@ -1,0 +1,4 @@
+postulate
+  Nat : Set
+  z : Nat
+  w : (x : z) → Nat
