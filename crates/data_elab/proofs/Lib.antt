@@ -1,0 +1,15 @@
+pub mod Reading
+pub mod Risen
+pub mod Kept
+pub mod Entering
+pub mod Groups
+pub mod Ended
+pub mod OwnParams
+pub mod Indices
+pub mod Lines
+pub mod LinesRead
+pub mod ConsRead
+pub mod FieldsRead
+pub mod Followed
+pub mod Queued
+pub mod Mentions

@@ -1,0 +1,9 @@
+pub mod Answers
+pub mod Reader
+pub mod Sources
+pub mod Params
+pub mod Shapes
+pub mod Heading
+pub mod Constructors
+pub mod Family
+pub mod Eta
