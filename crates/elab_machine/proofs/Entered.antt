@@ -29,7 +29,7 @@ use Rattle.elab_machine.specs.Writer.{IsReady, Grows, Keeps, Enters, IsEntered, 
 use Rattle.elab_machine.proofs.Kept.{Grows-trans, Keeps-trans, ready_kept, over_same, over_kept, values_kept, term_kept}
 use Rattle.elab_machine.proofs.Reading.{refused-weaker, refused-first, read-next}
 use Rattle.elab_machine.proofs.Around.{entries-weaker, telescope-stays, lambdas-append, functions-append}
-use Rattle.elab_machine.proofs.Entering.{Enters-trans, kept_enters, typed-no_type, typed-other, typed-next}
+use Rattle.elab_machine.proofs.Entering.{Enters-trans, kept_enters, typed-further, typed-no_type, typed-other, typed-next}
 use Rattle.elab_machine.proofs.Steps.{Readings, LambdaReadings}
 
 -- ---- entries of one binder after those of the binders before it
@@ -195,7 +195,7 @@ module _ {x q : Writer} (rx : IsReady x) (gq : Grows x q) (kq : Keeps x q) (p : 
         (subst (λ (o : Over). RefusedBy l (λ r. Read o (agrees p (term_of s t.term) (term_of s dom)) (Refuses r)) d) over_s h)))
 
     -- z is the writer after the first name
-    module _ {z : Writer} (gz : Grows s z) (inner : ℕ) (i : IsEntered s z name.id t.term inner) (agreed : Read (over s) (agrees p (term_of s t.term) (term_of s dom)) (Gives tt)) (cod_in : cod < length q.pool.now.trees) where
+    module _ {z : Writer} (gz : Grows s z) (inner : ℕ) (i : IsEntered s z name.id t.term more inner) (agreed : Read (over s) (agrees p (term_of s t.term) (term_of s dom)) (Gives tt)) (cod_in : cod < length q.pool.now.trees) where
       ez : Enters x z
       ez = kept_enters (Keeps-trans kq ks) i.enters
 
@@ -225,7 +225,7 @@ module _ {x q : Writer} (rx : IsReady x) (gq : Grows x q) (kq : Keeps x q) (p : 
           let a : Term = term_of s t.term in
           let k0 : Read (over x) (rest e (values_of z) (term_of z cod)) r = subst (λ (o : Over). Read o (rest e (values_of z) (term_of z cod)) r) over_z k in
           let k1 : Read (over x) (typed_lambda p f (ids more) (known (shift a 0 1) t.level) e (values_of z) (term_of z cod)) r =
-          subst (λ (u : Term). Read (over x) (typed_lambda p f (ids more) (known u t.level) e (values_of z) (term_of z cod)) r) i.ty.is k0 in
+          typed-further (over x) f more a (term_of z inner) t.level (values_of z) i.ty p e (term_of z cod) r k0 in
           let k2 = subst (λ (vs : Values). Read (over x) (typed_lambda p f (ids more) (known (shift a 0 1) t.level) e vs (term_of z cod)) r) same_values k1 in
           let k3 = subst (λ (u : Term). Read (over x) (typed_lambda p f (ids more) (known (shift a 0 1) t.level) e (binding name.id a (values_of x)) u) r) same_cod k2 in
           subst (λ (xs : List ResolvedName). Read (over x) (typed_lambda p f (ids xs) A e (values_of x) (term_of x wanted)) (in_lambdas (this ∷ []) r)) (sym first)

@@ -1,5 +1,5 @@
 -- Binders that are entered one after the other.
-use Rattle.std.proofs.Common.{◌≡◌, ◌<◌, ℕ, max, List, [], ◌∷◌, ◌++◌, append_assoc, length, refl, sym, ap, ◌∙◌}
+use Rattle.std.proofs.Common.{◌≡◌, ◌<◌, ℕ, max, List, [], ◌∷◌, ◌++◌, append_assoc, length, refl, sym, ap, subst, ◌∙◌}
 use Rattle.std.proofs.lemmas.List.{append-nil}
 use Rattle.core_rules.specs.declared.Flag.{Flag}
 use Rattle.core_rules.specs.Term.{Term, Lam, Pi}
@@ -8,14 +8,16 @@ use Rattle.core_rules.specs.Signature.{Entry}
 use Rattle.term_pool.specs.Pool.{Pool}
 use Rattle.kernel_rules.specs.Outcome.{Outcome, Gives, Refuses}
 use Rattle.el_outside.specs.declared.place.Pos.{Pos}
+use Rattle.resolved_tree.specs.declared.resolved.ResolvedName.{ResolvedName}
 use Rattle.written_rules.specs.Refusals.{Refusal}
 use Rattle.written_rules.specs.Asking.{Reads, ◌>>=◌, gives}
 use Rattle.written_rules.specs.Rules.{Values, Checks, Types, binding, known, function_wanted, agrees, typed_lambda, untyped_lambda, grouped}
+use Rattle.written_rules.specs.Expressions.{ids}
 use Rattle.elab_machine.specs.declared.writer.Writer.{Writer}
 use Rattle.elab_machine.specs.declared.error.WrittenError.{WrittenError}
 use Rattle.elab_machine.specs.Answers.{RefusedBy}
 use Rattle.elab_machine.specs.Binders.{in_lambdas, in_functions}
-use Rattle.elab_machine.specs.Writer.{IsReady, Grows, Keeps, Enters, IsEntered, Over, Read, term_of, values_of}
+use Rattle.elab_machine.specs.Writer.{IsReady, Grows, Keeps, Enters, IsEntered, IsFurther, Over, Read, term_of, values_of}
 use Rattle.elab_machine.proofs.Kept.{ready_kept, values_kept, term_kept}
 use Rattle.elab_machine.proofs.Reading.{read-next, read-last, refused-first, refused-next}
 
@@ -39,16 +41,33 @@ pub kept_enters : {x y z : Writer} → Keeps x y → Enters y z → Enters x z
 kept_enters k h = record { signature = h.signature ∙ k.signature; limits = h.limits ∙ k.limits; more = h.more; values = h.values ∙ ap (λ vs. vs ++ h.more) k.values; ready = h.ready }
 
 -- what is entered after a call is entered before it
-pub entered_before : {x y z : Writer} (r : IsReady x) (g : Grows x y) (k : Keeps x y) (n a t : ℕ) → a < length x.pool.now.trees → IsEntered y z n a t → IsEntered x z n a t
-entered_before {x} {y} {z} r g k n a t l h =
+pub entered_before : {x y z : Writer} (r : IsReady x) (g : Grows x y) (k : Keeps x y) (n a : ℕ) (more : List ResolvedName) (t : ℕ) → a < length x.pool.now.trees → IsEntered y z n a more t → IsEntered x z n a more t
+entered_before {x} {y} {z} r g k n a more t l h =
     let e : term_of y a ≡ term_of x a = term_kept r g k a l in
     record {
       enters = kept_enters k h.enters;
       values = h.values ∙ (ap (λ u. binding n u (values_of y)) e ∙ ap (binding n (term_of x a)) (values_kept r g k));
-      ty = record { within = h.ty.within; is = h.ty.is ∙ ap (λ u. shift u 0 1) e };
+      within = h.within;
+      ty = subst (λ (u : Term). IsFurther more u (term_of z t)) e h.ty;
     }
 
 -- ---- names of a group
+
+-- the type of the names that are left counts only if there is one
+module _ (o : Over) (f : Flag) (more : List ResolvedName) (a t : Term) (n : ℕ) (vs : Values) (h : IsFurther more a t) where
+  pub grouped-further : (e : Types) (r : Outcome Refusal (Term × ℕ)) → Read o (grouped f (ids more) (known t n) e vs) r → Read o (grouped f (ids more) (known (shift a 0 1) n) e vs) r
+  grouped-further e r k = of more h k
+    where
+      of : (xs : List ResolvedName) → IsFurther xs a t → Read o (grouped f (ids xs) (known t n) e vs) r → Read o (grouped f (ids xs) (known (shift a 0 1) n) e vs) r
+      of [] i l = l
+      of (x ∷ xs) i l = subst (λ (u : Term). Read o (grouped f (ids (x ∷ xs)) (known u n) e vs) r) i l
+
+  pub typed-further : (p : Pos) (e : Checks) (b : Term) (r : Outcome Refusal Term) → Read o (typed_lambda p f (ids more) (known t n) e vs b) r → Read o (typed_lambda p f (ids more) (known (shift a 0 1) n) e vs b) r
+  typed-further p e b r k = of more h k
+    where
+      of : (xs : List ResolvedName) → IsFurther xs a t → Read o (typed_lambda p f (ids xs) (known t n) e vs b) r → Read o (typed_lambda p f (ids xs) (known (shift a 0 1) n) e vs b) r
+      of [] i l = l
+      of (x ∷ xs) i l = subst (λ (u : Term). Read o (typed_lambda p f (ids (x ∷ xs)) (known u n) e vs b) r) i l
 
 module _ (o : Over) (f : Flag) (x : ℕ) (xs : List ℕ) (a : Term) (n : ℕ) (vs : Values) where
   abbrev pub this : Entry Term

@@ -5,6 +5,7 @@ use Rattle.std.specs.List.{AllByRecursion}
 use Rattle.el_base.proofs.Lists.{map-reverse}
 use Rattle.el_base.proofs.Throughout.{all-map}
 use Rattle.core_rules.specs.Mapped.{solved_map}
+use Rattle.core_rules.specs.Substitution.{shift}
 use Rattle.core_rules.specs.Signature.{Solved}
 use Rattle.core_rules.proofs.Substitution.Lifted.{shift_none}
 use Rattle.term_pool.specs.Pool.{Pool, tree}
@@ -15,7 +16,7 @@ outermost-in : (p : Pool) (vs : List (Solved ℕ)) → map (value_in p 0) (map o
 outermost-in p [] = refl
 outermost-in p (v ∷ vs) =
     let a = shift_none (tree p v.value) 0 in
-    let b = shift_none (tree p v.ty) 0 in
+    let b = shift_none (shift (tree p v.ty) 0 0) 0 ∙ shift_none (tree p v.ty) 0 in
     let rest = outermost-in p vs in
     cc (a, b, rest)
 
@@ -23,4 +24,4 @@ pub outermost-values : (p : Pool) (vs : List (Solved ℕ)) → values_in p 0 (ma
 outermost-values p vs = ap (map (value_in p 0)) (sym (map-reverse outermost vs)) ∙ outermost-in p (reverse vs)
 
 pub outermost-within : (p : Pool) (vs : List (Solved ℕ)) → AllByRecursion (IsSource (length p.trees)) vs → AreValues p 0 (map outermost vs)
-outermost-within p vs a = all-map (IsSource (length p.trees)) (IsValue p 0) outermost (λ v h. record { value = h.value; ty = h.ty; inside = omega arith }) vs a
+outermost-within p vs a = all-map (IsSource (length p.trees)) (IsValue p 0) outermost (λ v h. record { value = h.value; ty = h.ty; inside = omega arith; ty_inside = omega arith }) vs a

@@ -21,14 +21,14 @@ use Rattle.elab_machine.specs.Writer.{IsReady, Grows, Keeps, Enters, IsEntered, 
 use Rattle.elab_machine.proofs.Kept.{over_same, over_kept, term_kept, Grows-trans}
 use Rattle.elab_machine.proofs.Reading.{refused-weaker}
 use Rattle.elab_machine.proofs.Around.{lambdas-append, functions-append, telescope-push}
-use Rattle.elab_machine.proofs.Entering.{entered_before, grouped-next, typed-next, typed-no_function, typed-other}
+use Rattle.elab_machine.proofs.Entering.{entered_before, grouped-further, typed-further, grouped-next, typed-next, typed-no_function, typed-other}
 
 -- what the whole comes to, by what is left
 abbrev pub Readings : Over → (Types → Types) → Values → Telescope Term → ℕ → (Types → Types) → Values → Type 0
 Readings o W vs es n V us = (e : Types) (r : Outcome Refusal (Term × ℕ)) → Read o (V e us) r → Read o (W e vs) (in_functions es n r)
 
 module _ {y z : Writer} (g : Grows y z) (o : Over) (W : Types → Types) (vs : Values) (f : Flag) (n level : ℕ) (entries new : List (Entry ℕ)) (within : AllEntries (λ t. t < length y.pool.now.trees) entries)
-    (left more : List ResolvedName) (name : ResolvedName) (first : left ≡ name ∷ more) (ty next : ℕ) (low : ty < length y.pool.now.trees) (h : IsEntered y z name.id ty next) where
+    (left more : List ResolvedName) (name : ResolvedName) (first : left ≡ name ∷ more) (ty next : ℕ) (low : ty < length y.pool.now.trees) (h : IsEntered y z name.id ty more next) where
   abbrev pub this : Entry ℕ
   this = record { name = name.id; flag = f; ty = ty }
 
@@ -36,7 +36,7 @@ module _ {y z : Writer} (g : Grows y z) (o : Over) (W : Types → Types) (vs : V
       → Readings o W vs (telescope_map (term_of z) new) (max level n) (grouped f (ids more) (known (term_of z next) n)) (values_of z)
   names-next pushed reading e r k =
       let a : Term = term_of y ty in
-      let k1 : Read o (grouped f (ids more) (known (shift a 0 1) n) e (values_of z)) r = subst (λ (t : Term). Read o (grouped f (ids more) (known t n) e (values_of z)) r) h.ty.is k in
+      let k1 : Read o (grouped f (ids more) (known (shift a 0 1) n) e (values_of z)) r = grouped-further o f more a (term_of z next) n (values_of z) h.ty e r k in
       let k2 : Read o (grouped f (ids more) (known (shift a 0 1) n) e (binding name.id a (values_of y))) r = subst (λ (us : Values). Read o (grouped f (ids more) (known (shift a 0 1) n) e us) r) h.values k1 in
       let one : Telescope Term = record { name = name.id; flag = f; ty = a } ∷ [] in
       let s : Read o (grouped f (name.id ∷ ids more) (known a n) e (values_of y)) (in_functions one n r) = grouped-next o f name.id (ids more) a n (values_of y) e (known a n) refl r k2 in
@@ -89,16 +89,16 @@ module _ {x y q : Writer} (rx : IsReady x) (gx : Grows x y) (ex : Enters x y) (g
         (subst (λ (t : Term). RefusedBy s (λ r. Read (over x) (agrees p t (term_of q dom)) (Refuses r)) e) same
         (subst (λ (o : Over). RefusedBy s (λ r. Read o (agrees p (term_of q ty) (term_of q dom)) (Refuses r)) e) over_q h)))
 
-    module _ {z : Writer} (gz : Grows q z) (next : ℕ) (h : IsEntered q z name.id ty next) (agreed : Read (over q) (agrees p (term_of q ty) (term_of q dom)) (Gives tt)) (new : List (Entry ℕ))
+    module _ {z : Writer} (gz : Grows q z) (next : ℕ) (h : IsEntered q z name.id ty more next) (agreed : Read (over q) (agrees p (term_of q ty) (term_of q dom)) (Gives tt)) (new : List (Entry ℕ))
         (within : AllEntries (λ t. t < length y.pool.now.trees) entries) (pushed : new ≡ entries ++ record { name = name.id; flag = f; ty = ty } ∷ []) (in_q : cod < length q.pool.now.trees) where
       pub typed_names-next : LambdaReadings (over x) W (values_of x) b (telescope_map (term_of z) new) (typed_lambda p f (ids more) (known (term_of z next) n)) (values_of z) (term_of z cod)
       typed_names-next e r k =
           let a : Term = term_of y ty in
-          let j : IsEntered y z name.id ty next = entered_before ex.ready gq kq name.id ty next low h in
+          let j : IsEntered y z name.id ty more next = entered_before ex.ready gq kq name.id ty more next low h in
           let one : Telescope Term = record { name = name.id; flag = f; ty = a } ∷ [] in
           let es : Telescope Term = telescope_map (term_of y) entries in
           let g : Grows y z = Grows-trans gq gz in
-          let k1 : Read (over x) (typed_lambda p f (ids more) (known (shift a 0 1) n) e (values_of z) (term_of z cod)) r = subst (λ (t : Term). Read (over x) (typed_lambda p f (ids more) (known t n) e (values_of z) (term_of z cod)) r) j.ty.is k in
+          let k1 : Read (over x) (typed_lambda p f (ids more) (known (shift a 0 1) n) e (values_of z) (term_of z cod)) r = typed-further (over x) f more a (term_of z next) n (values_of z) j.ty p e (term_of z cod) r k in
           let k2 : Read (over x) (typed_lambda p f (ids more) (known (shift a 0 1) n) e (binding name.id a (values_of y)) (term_of z cod)) r = subst (λ (us : Values). Read (over x) (typed_lambda p f (ids more) (known (shift a 0 1) n) e us (term_of z cod)) r) j.values k1 in
           let k3 : Read (over x) (typed_lambda p f (ids more) (known (shift a 0 1) n) e (binding name.id a (values_of y)) w.1) r = subst (λ (t : Term). Read (over x) (typed_lambda p f (ids more) (known (shift a 0 1) n) e (binding name.id a (values_of y)) t) r) (Extends-tree cod gz.extends in_q) k2 in
           let agreed_x : Read (over x) (agrees p a w.0) (Gives tt) = subst (λ (t : Term). Read (over x) (agrees p t (term_of q dom)) (Gives tt)) same (subst (λ (o : Over). Read o (agrees p (term_of q ty) (term_of q dom)) (Gives tt)) over_q agreed) in

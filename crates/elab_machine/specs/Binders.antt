@@ -17,6 +17,7 @@ use Rattle.elab_machine.specs.declared.binders.Domains as D
 use Rattle.elab_machine.specs.declared.binders.Typed as T
 use Rattle.resolved_tree.specs.declared.resolved.ResolvedExpr.{ResolvedExpr}
 use Rattle.resolved_tree.specs.declared.resolved.ResolvedBinder.{ResolvedBinder}
+use Rattle.resolved_tree.specs.declared.resolved.ResolvedName.{ResolvedName}
 use Rattle.written_rules.specs.Expressions.{expr_meaning, binder_meaning}
 use Rattle.term_pool.specs.Pool.{Pool, tree}
 use Rattle.elab_machine.specs.declared.writer.Writer.{Writer}
@@ -72,10 +73,10 @@ abbrev pub node_of : Binding → Entry ℕ → ℕ → Node
 node_of Lambda e t = N.Lam e.flag e.name e.ty t
 node_of Function e t = N.Pi e.flag e.name e.ty t
 
--- the name is bound, where id a is the wanted type b
-abbrev pub AnswersCompared : Writer → Writer → Pos → ℕ → ℕ → ℕ → Result ℕ WrittenError → Type 0
-AnswersCompared x y p name a b (Ok t) = IsEntered x y name a t × Read (over x) (agrees p (term_of x a) (term_of x b)) (Gives tt)
-AnswersCompared x y p name a b (Err e) = RefusedBy y.pool.now (λ r. Read (over x) (agrees p (term_of x a) (term_of x b)) (Refuses r)) e
+-- the name is bound before more names of its group, where id a is the wanted type b
+abbrev pub AnswersCompared : Writer → Writer → Pos → ℕ → ℕ → ℕ → List ResolvedName → Result ℕ WrittenError → Type 0
+AnswersCompared x y p name a b more (Ok t) = IsEntered x y name a more t × Read (over x) (agrees p (term_of x a) (term_of x b)) (Gives tt)
+AnswersCompared x y p name a b more (Err e) = RefusedBy y.pool.now (λ r. Read (over x) (agrees p (term_of x a) (term_of x b)) (Refuses r)) e
 
 -- ---- expressions
 

@@ -1,5 +1,5 @@
 -- What a writer reads expressions over, and what its calls leave of it.
-use Rattle.std.specs.Prelude.{Option, Some, None, ◌≡◌, ℕ, ◌-◌, ◌<◌, ◌≤◌, List, [], ◌++◌, length, map, reverse, Bool, true, false, Result, Ok, Err}
+use Rattle.std.specs.Prelude.{Option, Some, None, ◌≡◌, ℕ, ◌-◌, ◌<◌, ◌≤◌, List, [], ◌∷◌, ◌++◌, length, map, reverse, Bool, true, false, Result, Ok, Err}
 use Rattle.std.specs.List.{AllByRecursion}
 use Rattle.core_rules.specs.declared.Flag.{Flag}
 use Rattle.core_rules.specs.declared.Flag.TheVariants as flag
@@ -7,15 +7,15 @@ use Rattle.core_rules.specs.BoundedLaws.{shown}
 use Rattle.core_rules.specs.Term.{Term, Pi, Sort}
 use Rattle.core_rules.specs.Substitution.{shift}
 use Rattle.core_rules.specs.Signature.{Signature, Solved}
-use Rattle.core_rules.specs.Mapped.{solved_map}
 use Rattle.core_rules.specs.Heads.{Answer, Form}
-use Rattle.term_pool.specs.Pool.{Pool, tree, Extends, StandsFor}
+use Rattle.term_pool.specs.Pool.{Pool, tree, Extends}
 use Rattle.core_terms.specs.Signature.{Stands, signature_in}
 use Rattle.weak_head.specs.States.{AppliedBelow, answer_in}
 use Rattle.conversion.specs.declared.conv.Conv as V
 use Rattle.conversion.specs.declared.conv.Conv.TheVariants as C
 use Rattle.kernel_rules.specs.Outcome.{Outcome, Gives, Refuses}
 use Rattle.el_outside.specs.declared.place.Pos.{Pos}
+use Rattle.resolved_tree.specs.declared.resolved.ResolvedName.{ResolvedName}
 use Rattle.written_rules.specs.Refusals.{Refusal, NotAFunction, CannotInfer, at}
 use Rattle.written_rules.specs.Asking.{Asking, Comes}
 use Rattle.written_rules.specs.Rules.{Values, binding, function_shown}
@@ -36,19 +36,24 @@ use Rattle.elab_machine.specs.Answers.{RefusedBy, refused_at}
 abbrev pub risen : ℕ → Solved Term → Solved Term
 risen n v = record { name = v.name; value = shift v.value 0 n; ty = shift v.ty 0 n }
 
+-- a value where it was bound: its type is brought inside as many binders
+abbrev pub value_bound : Pool → Value → Solved Term
+value_bound p v = record { name = v.solved.name; value = tree p v.solved.value; ty = shift (tree p v.solved.ty) 0 (v.inside - v.ty_inside) }
+
 -- a value inside n binders
 abbrev pub value_in : Pool → ℕ → Value → Solved Term
-value_in p n v = risen (n - v.inside) (solved_map (tree p) v.solved)
+value_in p n v = risen (n - v.inside) (value_bound p v)
 
 -- values that stand outermost first
 abbrev pub values_in : Pool → ℕ → List Value → Values
 values_in p n vs = map (value_in p n) (reverse vs)
 
--- its ids stand in the pool, and it was bound inside n binders at most
+-- its ids stand in the pool, and it was bound inside n binders at most, its type read inside no more than it
 pub record IsValue (p : Pool) (n : ℕ) (v : Value) : Type 0 where
   pub value : v.solved.value < length p.trees
   pub ty : v.solved.ty < length p.trees
   pub inside : v.inside ≤ n
+  pub ty_inside : v.ty_inside ≤ v.inside
 
 abbrev pub AreValues : Pool → ℕ → List Value → Type 0
 AreValues p n vs = AllByRecursion (IsValue p n) vs
@@ -90,11 +95,17 @@ pub record Enters (x y : Writer) : Type 0 where
   pub values : y.values.now.items ≡ x.values.now.items ++ more
   pub ready : IsReady y
 
--- the name x of the type a is bound; id t is this type inside its binder
-pub record IsEntered (x y : Writer) (name a t : ℕ) : Type 0 where
+-- t is the type a inside one binder more, if a further name has this type
+abbrev pub IsFurther : List ResolvedName → Term → Term → Type 0
+IsFurther [] a t = Unit {0}
+IsFurther (x ∷ xs) a t = t ≡ shift a 0 1
+
+-- the name of the type a is bound; id t is this type inside its binder, if more names of its group follow
+pub record IsEntered (x y : Writer) (name a : ℕ) (more : List ResolvedName) (t : ℕ) : Type 0 where
   pub enters : Enters x y
   pub values : values_of y ≡ binding name (term_of x a) (values_of x)
-  pub ty : StandsFor y.pool.now t (shift (term_of x a) 0 1)
+  pub within : t < length y.pool.now.trees
+  pub ty : IsFurther more (term_of x a) (term_of y t)
 
 -- over which signature and within which limits a reading comes to something
 pub record Over : Type 0 where

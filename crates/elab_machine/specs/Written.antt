@@ -20,9 +20,9 @@ pub record IsSource (n : ℕ) (v : Solved ℕ) : Type 0 where
 abbrev pub source_values : Pool → List (Solved ℕ) → Values
 source_values p vs = map (solved_map (tree p)) (reverse vs)
 
--- a value inside no binder
+-- a value inside no binder, as its type
 abbrev pub outermost : Solved ℕ → Value
-outermost v = record { solved = v; inside = 0 }
+outermost v = record { solved = v; inside = 0; ty_inside = 0 }
 
 -- a type and the level of its sort
 abbrev pub AnswersType : Pool → (Outcome Refusal (Term × ℕ) → Type 0) → Result (ℕ × ℕ) WrittenError → Type 0

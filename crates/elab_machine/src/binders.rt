@@ -119,7 +119,7 @@ impl<'a> Writer<'a> {
                 ty,
             };
             entries.push(entry)?;
-            ty = self.enter(name.id, ty)?;
+            ty = self.enter(name.id, ty, more)?;
             level = higher(level, found.level);
             left = more;
         }
@@ -143,7 +143,7 @@ impl<'a> Writer<'a> {
         let mut entries = Vec::new(self.alloc);
         let ty = parts.dom;
         entries.push(Entry { name, flag, ty })?;
-        self.enter(name, parts.dom)?;
+        self.enter(name, parts.dom, &[])?;
         Ok(Lambdas {
             entries,
             wanted: parts.cod,
@@ -172,7 +172,7 @@ impl<'a> Writer<'a> {
         let mut left = names;
         while let [name, more @ ..] = left {
             let parts = self.function_wanted(pos, flag, wanted)?;
-            let next = self.enter_compared(pos, name.id, ty, parts.dom)?;
+            let next = self.enter_compared(pos, name.id, ty, parts.dom, more)?;
             let entry = Entry {
                 name: name.id,
                 flag,
@@ -186,21 +186,23 @@ impl<'a> Writer<'a> {
         Ok(Lambdas { entries, wanted })
     }
 
-    /// Binds a name of the type `ty`, which has to be the type `wanted`, and gives `ty` inside its binder.
+    /// Binds a name of the type `ty`, which has to be the type `wanted`. Where `more` names of its group follow, it gives `ty` inside
+    /// its binder for them.
     pub(crate) fn enter_compared(
         &mut self,
         pos: Pos,
         name: NameId,
         ty: TermId,
         wanted: TermId,
+        more: &[ResolvedName],
     ) -> Result<TermId, WrittenError>
         requires ready { IsReady self.old }
         requires ty { ty < length self.old.pool.now.trees }
         requires wanted { wanted < length self.old.pool.now.trees }
         ensures grows { Grows self.old self.new }
-        ensures is { AnswersCompared self.old self.new pos name ty wanted result }
+        ensures is { AnswersCompared self.old self.new pos name ty wanted more.now result }
     {
         self.agree(pos, ty, wanted)?;
-        Ok(self.enter(name, ty)?)
+        Ok(self.enter(name, ty, more)?)
     }
 }

@@ -107,7 +107,7 @@ impl<'a> Writer<'a> {
         let parts = self.function_wanted(pos, flag, wanted)?;
         let found = self.type_expr(ty)?;
         let first = name.id;
-        let inner = self.enter_compared(pos, first, found.term, parts.dom)?;
+        let inner = self.enter_compared(pos, first, found.term, parts.dom, more)?;
         let again = Typed {
             term: inner,
             level: found.level,

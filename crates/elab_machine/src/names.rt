@@ -169,10 +169,15 @@ impl<'a> Writer<'a> {
         ensures keeps { Keeps self.old self.new }
         ensures is { IfOk result (λ s. IsFound self.new.pool.now s (found_of (value_in self.old.pool.now self.old.inside value))) }
     {
-        let Value { solved, inside } = value;
+        let Value {
+            solved,
+            inside,
+            ty_inside,
+        } = value;
         let more = self.inside - inside;
+        let ty_more = self.inside - ty_inside;
         let term = shift(self.alloc, self.pool, solved.value, 0, more)?;
-        let ty = shift(self.alloc, self.pool, solved.ty, 0, more)?;
+        let ty = shift(self.alloc, self.pool, solved.ty, 0, ty_more)?;
         Ok(Found { term, ty })
     }
 

@@ -1,35 +1,69 @@
-//! What source variables stand for. A value keeps the number of binders inside which it was bound, and is raised when it is looked up.
+//! What source variables stand for. A value keeps the number of binders inside which it was bound, its type the number of those inside
+//! which it was read, and both are raised when the variable is looked up.
 
-ghost use Rattle.std.specs.Prelude.{◌≡◌, ◌<◌, length, take, IfOk, OnOk};
-ghost use Rattle.elab_machine.specs.Writer.{IsReady, Grows, IsEntered};
+ghost use Rattle.std.specs.Prelude.{◌≡◌, ◌<◌, length, take, IfOk};
+ghost use Rattle.term_pool.specs.Pool.{Extends, tree};
+ghost use Rattle.elab_machine.specs.Writer.{IsReady, Grows, IsEntered, IsFurther};
 
 use crate::writer::Writer;
-use core_terms::{NameId, NoMemory, Node, Solved, TermId, shift};
+use core_terms::{NameId, NoMemory, Node, Solved, TermId, TermPool, shift};
+use resolved_tree::ResolvedName;
+use std::alloc::Global;
 
-/// The value of a source variable, inside so many binders.
+/// The value of a source variable, which stands inside so many binders, with its type. The type of a bound name stands outside its own
+/// binder, so inside one fewer than the name.
 #[derive(Clone, Copy, Drop)]
 pub(crate) struct Value {
     pub solved: Solved,
     pub inside: u32,
+    pub ty_inside: u32,
+}
+
+/// The type of a name inside its binder, where a further name of its group has this type.
+fn further(
+    alloc: Global,
+    pool: &mut TermPool,
+    ty: TermId,
+    more: &[ResolvedName],
+) -> Result<TermId, NoMemory>
+    requires { ty < length pool.old.trees }
+    ensures extends { Extends pool.old pool.new }
+    ensures within { IfOk result (λ t. t < length pool.new.trees) }
+    ensures is { IfOk result (λ t. IsFurther more.now (tree pool.old ty) (tree pool.new t)) }
+{
+    if more.is_empty() {
+        return Ok(ty);
+    }
+    shift(alloc, pool, ty, 0, 1)
 }
 
 impl<'a> Writer<'a> {
-    /// Binds a name of this type, and gives the type inside its binder.
-    pub(crate) fn enter(&mut self, name: NameId, ty: TermId) -> Result<TermId, NoMemory>
+    /// Binds a name of this type. The type inside its binder is made only where `more` names of its group follow, and given for them.
+    pub(crate) fn enter(
+        &mut self,
+        name: NameId,
+        ty: TermId,
+        more: &[ResolvedName],
+    ) -> Result<TermId, NoMemory>
         requires ready { IsReady self.old }
         requires ty { ty < length self.old.pool.now.trees }
         ensures grows { Grows self.old self.new }
-        ensures enters { IfOk result (IsEntered self.old self.new name ty) }
+        ensures enters { IfOk result (IsEntered self.old self.new name ty more.now) }
     {
-        let Some(inside) = self.inside.checked_add(1) else {
+        let ty_inside = self.inside;
+        let Some(inside) = ty_inside.checked_add(1) else {
             return Err(NoMemory);
         };
         let value = self.pool.add(Node::Var(0))?;
-        let ty = shift(self.alloc, self.pool, ty, 0, 1)?;
+        let next = further(self.alloc, self.pool, ty, more)?;
         let solved = Solved { name, value, ty };
-        self.values.push(Value { solved, inside })?;
+        self.values.push(Value {
+            solved,
+            inside,
+            ty_inside,
+        })?;
         self.inside = inside;
-        Ok(ty)
+        Ok(next)
     }
 
     /// Leaves the binders: the first values are left.

@@ -25,6 +25,7 @@ fn begun(alloc: Global, values: &[Solved]) -> Result<Vec<Value>, NoMemory>
         all.push(Value {
             solved: *value,
             inside: 0,
+            ty_inside: 0,
         })?;
     }
     Ok(all)

@@ -7,4 +7,4 @@ enter-requires-clause-ready c = ready_kept c.requires.ready c.in_ok-agree.ensure
 
 pub returns-clause-is : goal.returns-clause-is
 returns-clause-is c =
-    (entered_before c.requires.ready c.in_ok-agree.ensures.grows c.in_ok-agree.ensures.keeps c.args.name c.args.ty c.in_ok-enter.field-0 c.requires.ty c.in_ok-enter.ensures.enters, c.in_ok-agree.ensures.is)
+    (entered_before c.requires.ready c.in_ok-agree.ensures.grows c.in_ok-agree.ensures.keeps c.args.name c.args.ty c.args.more.now c.in_ok-enter.field-0 c.requires.ty c.in_ok-enter.ensures.enters, c.in_ok-agree.ensures.is)

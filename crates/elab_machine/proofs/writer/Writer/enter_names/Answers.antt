@@ -54,7 +54,7 @@ loop-left-preserved c =
     record {
       grows = Grows-trans i.grows g;
       enters = Enters-trans i.enters h.enters;
-      ty = h.ty.within;
+      ty = h.within;
       within = rw pushed (entries-weaker y.pool.now z.pool.now _ g.extends (all-push (λ (e : Entry ℕ). e.ty < length y.pool.now.trees) c.loop-left.entries.items _ i.within i.ty));
       reading = rw c.higher-level.ensures (names-next g (over c.args.self.now) (grouped c.args.flag (ids c.args.names.now) (known (term_of c.args.self.now c.args.found.term) c.args.found.level)) (values_of c.args.self.now)
           c.args.flag c.args.found.level c.loop-left.level c.loop-left.entries.items c.push.new.self.items i.within left more name first c.loop-left.ty c.in_ok-ty.ty i.ty h pushed i.reading);

@@ -64,7 +64,7 @@ loop-left-preserved c =
     record {
       grows = Grows-trans i.grows g;
       enters = Enters-trans (enters_kept i.enters j.grows j.keeps) h.0.enters;
-      ty = h.0.ty.within;
+      ty = h.0.within;
       wanted = omega (arith, Extends-length gz.extends, j.is.1);
       within = rw pushed (entries-weaker y.pool.now z.pool.now _ g.extends (all-push (λ (e : Entry ℕ). e.ty < length y.pool.now.trees) c.loop-left.entries.items _ i.within i.ty));
       reading = typed_names-next c.requires.ready i.grows i.enters j.grows j.keeps c.args.pos c.args.flag c.args.found.level left more name first
