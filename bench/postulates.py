@@ -1,87 +1,88 @@
 #!/usr/bin/env python3
-"""Times the built program on generated files of postulates.
+"""Times the built program on files of postulates, whose sizes double.
 
-usage: bench/postulates.py [RUNS]
+usage: bench/postulates.py PROGRAM [RUNS]
 
-For each form and each number of lines, or of names of a group, it prints the size of the text, the best time of RUNS runs (3 where it is not
-given), the peak memory, the time of a line, and the ratio of the time to that of the size before. First comes the
-start-up: the answer to no words. The times are those of the whole process, from start to exit.
-"""
-import os
-import subprocess
+PROGRAM is the built `elab_cli`. First comes the start-up: the answer to no words. Then for each form and each number of declarations a line has
+the size of the text, the best time of RUNS runs (3 where it is not given), the peak memory, the time of a declaration, the ratio of the time to
+that of the size before, and the first line of the answer. The times are those of the whole process, from start to exit. The status is 1 if an
+answer is not that all are declared, a run takes more than SECONDS or MEGABYTES, or a declaration takes more than GROWTH times as long at the
+greatest size as at the smallest."""
 import sys
-import tempfile
-import time
 
-TOP = os.path.dirname(os.path.dirname(os.path.abspath(__file__)))
-PROGRAM = os.path.join(TOP, "crates", "elab_cli", "out", "elab_cli")
+from measure import arguments, check, run
+
+SECONDS = 2
+MEGABYTES = 1024
+GROWTH = 2.5
 LIMIT = 1_048_576
 
 
+def block(lines):
+    return 'postulate\n  A : Set\n' + ''.join(f'  {line}\n' for line in lines)
+
+
 def short_lines(n):
-    """n types of `Set`."""
-    return "postulate\n" + "".join(f"  a{i} : Set\n" for i in range(n))
+    """n sorts."""
+    return block(f'a{i} : Set' for i in range(n))
+
+
+def lines_of_names(n):
+    """n sorts, ten names a line."""
+    return block(' '.join(f'a{i}' for i in range(k, k + 10)) + ' : Set' for k in range(0, n, 10))
+
+
+def lines_with_groups(n):
+    """n types with groups of names, in the second of which stand the names of the first."""
+    return block(f'f{i} : (X Y : Set) (x y z : X) → (X → Y) → A' for i in range(n))
 
 
 def long_lines(n):
-    """n types of ten arrows each, over one declared type."""
-    arrows = "".join(f"(x{k} : a0) → " for k in range(10))
-    return "postulate\n  a0 : Set\n" + "".join(f"  f{i} : {arrows}a0\n" for i in range(n))
+    """n types of ten arrows each."""
+    arrows = ''.join(f'(x{k} : A) → ' for k in range(10))
+    return block(f'f{i} : {arrows}A' for i in range(n))
 
 
-def one_group(n):
-    """One function type over n variables of one group."""
-    return "postulate\n  a0 : Set\n  f : (" + "x " * n + ": a0) → a0\n"
-
-
-def run(words):
-    """The seconds, the peak memory in kilobytes, the status and the output of one run."""
-    with tempfile.TemporaryFile() as out:
-        start = time.perf_counter()
-        process = subprocess.Popen([PROGRAM, *words], stdout=out)
-        _, status, usage = os.wait4(process.pid, 0)
-        seconds = time.perf_counter() - start
-        process.returncode = os.waitstatus_to_exitcode(status)
-        out.seek(0)
-        return seconds, usage.ru_maxrss, process.returncode, out.read().decode()
-
-
-def best(words, runs):
-    return min((run(words) for _ in range(runs)), key=lambda result: result[0])
+# a form, its text of n declarations, and the numbers of declarations
+FORMS = (
+    ('`aI : Set`', short_lines, (2_500, 5_000, 10_000, 20_000, 40_000)),
+    ('lines of ten names', lines_of_names, (5_000, 10_000, 20_000, 40_000, 80_000)),
+    ('types with groups of names', lines_with_groups, (1_000, 2_000, 4_000, 8_000, 16_000)),
+    ('ten function types', long_lines, (375, 750, 1_500, 3_000, 6_000)),
+)
 
 
 def main():
-    runs = int(sys.argv[1]) if len(sys.argv) > 1 else 3
-    if not os.access(PROGRAM, os.X_OK):
-        sys.exit("elab_cli is not built: run bin/elab_cli once")
-    seconds, memory, status, _ = best([], runs)
-    print(f"start-up: {seconds * 1000:.1f} ms, {memory} kB, status {status}")
-    print("| form | lines or names | bytes | ms | peak kB | µs for each | ratio |")
-    print("|---|---|---|---|---|---|---|")
-    few = (1_000, 2_500, 5_000, 10_000, 20_000)
-    many = (25_000, 50_000, 100_000, 200_000, 400_000)
-    forms = (("`aI : Set`", short_lines, few), ("ten function types", long_lines, few), ("names of one group", one_group, many))
-    for name, make, sizes in forms:
+    program, runs = arguments(__doc__)
+    start = min((run([program]) for _ in range(runs)), key=lambda one: one.seconds)
+    print(f'start-up: {start.seconds * 1000:.1f} ms, {start.megabytes:.1f} MB, status {start.status}')
+    print('| form | declarations | bytes | ms | peak MB | µs for each | ratio | answer | |\n|---|---|---|---|---|---|---|---|---|')
+    passed = True
+    for name, make, sizes in FORMS:
         first = before = None
         for n in sizes:
-            text = make(n).encode()
-            if len(text) > LIMIT:
-                print(f"| {name} | {n} | {len(text)} | beyond the limit of a text | | | |")
-                continue
-            with tempfile.NamedTemporaryFile(suffix=".agda") as file:
-                file.write(text)
-                file.flush()
-                seconds, memory, status, out = best(["check", file.name], runs)
-            if status != 0 or not out.startswith("complete "):
-                sys.exit(f"{name}, {n}: status {status}, {out!r}")
-            line = seconds / n
-            ratio = "" if before is None else f"{seconds / before:.2f}"
-            print(f"| {name} | {n} | {len(text)} | {seconds * 1000:.1f} | {memory} | {line * 1e6:.2f} | {ratio} |")
-            before = seconds
-            if first is None:
-                first = line
-        print(f"{name}: the time for each at the greatest size is {line / first:.2f} times that at the smallest")
+            text = make(n)
+            size = len(text.encode())
+            assert size <= LIMIT, f'{name}, {n}: {size} bytes'
+            one = check(program, text, runs)
+            each = one.seconds / n
+            first = first or each
+            faults = []
+            if not one.answer().startswith(f'complete declarations={n + 1} '):
+                faults.append('not all are declared')
+            if one.seconds > SECONDS:
+                faults.append(f'over {SECONDS} s')
+            if one.megabytes > MEGABYTES:
+                faults.append(f'over {MEGABYTES} MB')
+            if n == sizes[-1] and each > GROWTH * first:
+                faults.append(f'{each / first:.2f} times as long for each as at {sizes[0]:,}')
+            passed = passed and not faults
+            ratio = f'{one.seconds / before:.2f}' if before else ''
+            before = one.seconds
+            measured = f'{size:,} | {one.seconds * 1000:.1f} | {one.megabytes:.1f} | {each * 1e6:.2f} | {ratio}'
+            print(f'| {name} | {n:,} | {measured} | {one.answer()} | {", ".join(faults)} |', flush=True)
+    sys.exit(0 if passed else 1)
 
 
-if __name__ == "__main__":
+if __name__ == '__main__':
     main()
