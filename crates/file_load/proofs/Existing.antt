@@ -1,5 +1,5 @@
 -- Something is said of each text.
-use Rattle.std.proofs.Common.{◌≡◌, ◌≢◌, ◌∙◌, ◌<◌, ◌≤◌, ◌+◌, ℕ, zero, suc, Bool, true, false, List, [], ◌∷◌, length, take, map, Some, None, Ok, Err, refl, sym, subst, arith}
+use Rattle.std.proofs.Common.{◌≡◌, ◌<◌, ◌≤◌, ◌+◌, ℕ, zero, suc, Bool, true, false, List, [], ◌∷◌, length, take, map, Some, None, Ok, Err, refl, sym, subst, arith}
 use Rattle.std.specs.declared.option.Option.{Option}
 use Rattle.std.specs.Prelude.{Result, nat_lt}
 use Rattle.std.specs.Str.{IsUtf8, IsValidUpTo, is_utf8}
@@ -38,24 +38,24 @@ use Rattle.core_rules.specs.Signature.{Signature}
 use Rattle.session_text.specs.declared.error.LoadError.{LoadError}
 use Rattle.core_rules.specs.Derivable.{Derivable}
 use Rattle.core_rules.proofs.Derivations.{derivable-empty}
-use Rattle.term_pool.specs.Count.{count_of}
-use Rattle.term_pool.specs.declared.count.Count.{Count}
-use Rattle.term_pool.specs.declared.count.Count.TheVariants.{Within, TooLarge}
-use Rattle.kernel_rules.specs.Outcome.{Gives, Refuses}
-use Rattle.kernel_rules.specs.Outcome as outcome
-use Rattle.kernel_rules.specs.Refusals as kernel
 use Rattle.kernel_rules.specs.TermReading.{IsTypeOf}
+use Rattle.kernel_rules.specs.FamilyReading.{FamilyOf}
 use Rattle.kernel_rules.proofs.TermOutcome.{is_type-outcome}
-use Rattle.written_rules.specs.Refusals.{Refusal}
+use Rattle.kernel_rules.proofs.DeclOutcome.{family-outcome}
 use Rattle.written_rules.specs.Expressions.{WrittenTypeOf, expr_meaning}
 use Rattle.written_rules.proofs.Comes.{comes-exactly}
 use Rattle.resolved_tree.specs.declared.resolved.ResolvedSignature.{ResolvedSignature}
 use Rattle.resolved_tree.specs.declared.resolved.Resolved.TheVariants as rd
-use Rattle.file_load.specs.Lines.{Judgement, LineOf, LinesOf, DeclOf}
-use Rattle.file_load.proofs.Judging.{type_in_scope}
+use Rattle.data_rules.specs.Families.{IsFamily, WrittenFamilyOf}
+use Rattle.data_rules.proofs.Exactly.{family-exactly}
+use Rattle.file_load.specs.Kinds.{elab_kind, kernel_kind, family_kind, decl_kind}
+use Rattle.file_load.specs.Passes.{error_at}
+use Rattle.file_load.specs.Sizes.{terms_of}
+use Rattle.file_load.specs.Lines.{Judgement, LineOf, LinesOf, FamilyDeclOf, DeclOf}
+use Rattle.file_load.proofs.Passing.{passes_some}
 use Rattle.file_load.specs.Load.{Declares, DeclaresFile, HasVerdict, IsInError, IsLexed, IsParsed, Made, Outcome, Reads, Verdict, complete_report, limit}
 use Rattle.file_load.specs.Unbuilt.{first_of, in_decl, in_file, or_else}
-use Rattle.file_load.proofs.Accepted.{line_derivable, decl_derivable, signature_derivable}
+use Rattle.file_load.proofs.Accepted.{type_in_scope, family_in_scope, line_derivable, decl_derivable, signature_derivable}
 use Rattle.file_load.proofs.Told.{IsTold, resolves_told}
 
 -- ---- bytes
@@ -125,19 +125,19 @@ first_none (Some n) b e = absurd cc
 module _ (fuel depth : ℕ) where
   -- a line over a derivable signature
   line : (g : Signature Term) (s : ResolvedSignature) → Derivable g → (j : Judgement) × LineOf fuel depth g s j
-  line g s d = let w = comes-exactly g fuel depth ((expr_meaning g s.ty).types []) in elaborated w.0 w.1
-    where
-      checked : (t : Term) (n : ℕ) → WrittenTypeOf g fuel depth [] s.ty (Gives (t, n)) → count_of t ≢ TooLarge → (o : outcome.Outcome kernel.Refusal ℕ) → IsTypeOf g fuel depth [] t o → (j : Judgement) × LineOf fuel depth g s j
-      checked t n w m (Gives l) k = (_, LineOf.accepted t n l w m k)
-      checked t n w m (Refuses e) k = (_, LineOf.refused t n e w m k)
+  line g s d =
+      let w = comes-exactly g fuel depth ((expr_meaning g s.ty).types []) in
+      let o = passes_some (WrittenTypeOf g fuel depth [] s.ty) (λ e. error_at e.pos (elab_kind e.kind)) (λ q. q.0 ∷ []) (λ q. IsTypeOf g fuel depth [] q.0) kernel_kind s.place.pos
+      (w.0, w.1) (λ q v. is_type-outcome g fuel depth [] 0 q.0 refl (type_in_scope fuel depth g s.ty q d v)) in
+      (_, record { passed = o.0; passes = o.1; is = refl })
 
-      measured : (t : Term) (n : ℕ) → WrittenTypeOf g fuel depth [] s.ty (Gives (t, n)) → (c : Count) → count_of t ≡ c → (j : Judgement) × LineOf fuel depth g s j
-      measured t n w TooLarge e = (_, LineOf.too_large t n w e)
-      measured t n w (Within k l) e = let o = is_type-outcome g fuel depth [] 0 t refl (type_in_scope g fuel depth s.ty t n d w) in checked t n w (λ f. let both = sym e ∙ f in absurd cc) o.0 o.1
-
-      elaborated : (o : outcome.Outcome Refusal (Term × ℕ)) → WrittenTypeOf g fuel depth [] s.ty o → (j : Judgement) × LineOf fuel depth g s j
-      elaborated (Refuses e) w = (_, LineOf.unelaborated e w)
-      elaborated (Gives q) w = measured q.0 q.1 w (count_of q.0) refl
+  -- a data or record declaration over a derivable signature
+  family : (g : Signature Term) (p : Pos) (x : Resolved) → IsFamily x → Derivable g → (j : Judgement) × FamilyDeclOf fuel depth g p x j
+  family g p x f d =
+      let w = family-exactly g fuel depth x f in
+      let o = passes_some (WrittenFamilyOf g fuel depth x) (λ e. error_at e.pos (family_kind e.kind)) terms_of (FamilyOf g fuel depth) decl_kind p
+      (w.0, w.1) (λ c v. family-outcome g fuel depth c (family_in_scope fuel depth g x c d v)) in
+      (_, record { passed = o.0; passes = o.1; is = refl })
 
   lines : (ss : List ResolvedSignature) (g : Signature Term) → Derivable g → (j : Judgement) × LinesOf fuel depth g ss j
   lines [] g d = (_, LinesOf.none)
@@ -145,14 +145,14 @@ module _ (fuel depth : ℕ) where
     where
       of : (j : Judgement) → LineOf fuel depth g s j → ((h : Signature Term) → Derivable h → (j : Judgement) × LinesOf fuel depth h ss j) → (j : Judgement) × LinesOf fuel depth g (s ∷ ss) j
       of (Err e) l more = (_, LinesOf.stopped l)
-      of (Ok h) l more = let rest = more h (line_derivable fuel depth l d h refl) in (rest.0, LinesOf.further l rest.1)
+      of (Ok h) l more = let rest = more h (line_derivable fuel depth g s d h l) in (rest.0, LinesOf.further l rest.1)
 
   judgement : (g : Signature Term) (r : Resolved) → Derivable g → (j : Judgement) × DeclOf fuel depth g r j
   judgement g (rd.Postulate p ss) d = lines ss g d
   judgement g (rd.Function p s cs) d = (_, refl)
   judgement g (rd.Open p x b) d = (_, refl)
-  judgement g (rd.«Data» p x bs a ss) d = (_, refl)
-  judgement g (rd.Record p x bs a xs) d = (_, refl)
+  judgement g (rd.«Data» p x bs a ss) d = family g x.place.pos (rd.«Data» p x bs a ss) tt d
+  judgement g (rd.Record p x bs a xs) d = family g x.place.pos (rd.Record p x bs a xs) tt d
 
   declared : (ds : List Decl) (k : Known) (g : Signature Term) → Derivable g → first_of (map in_decl ds) ≡ None → (o : Outcome) × Declares fuel depth k g ds o
   declared [] k g d e = (Ok (k, g), Declares.none)

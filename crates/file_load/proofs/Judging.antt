@@ -1,63 +1,62 @@
 -- Lines and declarations are judged, one further.
-use Rattle.std.proofs.Common.{◌≡◌, ◌≢◌, ◌<◌, ◌≤◌, ℕ, ◌+◌, List, [], ◌∷◌, ◌++◌, drop, length, get_or, Ok, Err, refl, sym, ap, subst, ◌∙◌, arith, append_assoc}
+use Rattle.std.proofs.Common.{◌≡◌, ◌≢◌, ◌<◌, ◌≤◌, ℕ, ◌+◌, List, [], ◌∷◌, ◌++◌, drop, length, get_or, Ok, Err, refl, sym, ap, subst, ◌∙◌, append_assoc}
 use Rattle.std.specs.Prelude.{Result}
-use Rattle.std.specs.List.{AllByRecursion}
 use Rattle.std.proofs.lemmas.List.{drop_all}
 use Rattle.el_base.proofs.Throughout.{all-append}
 use Rattle.el_base.proofs.Lists.{drop_next}
 use Rattle.core_rules.specs.Term.{Term}
-use Rattle.core_rules.specs.Signature.{Signature, Postulate}
-use Rattle.core_rules.specs.Mapped.{decl_map}
+use Rattle.core_rules.specs.Signature.{Signature, FamDecl, Postulate, Family}
+use Rattle.core_rules.specs.Mapped.{AllFamily, decl_map}
 use Rattle.core_rules.specs.Derivable.{Derivable}
-use Rattle.core_rules.specs.InScope.{InScope, any_meta}
 use Rattle.core_rules.proofs.Derivations.{derivable-empty}
-use Rattle.core_rules.proofs.Trees.Scoped.{derivable-in_scope}
 use Rattle.term_pool.specs.Pool.{Pool, tree, Extends}
-use Rattle.term_pool.specs.Growth.{Extends-length, Extends-tree}
-use Rattle.term_pool.specs.Count.{count_of}
-use Rattle.term_pool.specs.declared.count.Count.TheVariants.{TooLarge}
 use Rattle.session_text.specs.declared.error.LoadError.{LoadError}
-use Rattle.session_text.specs.declared.error.LoadKind.{LoadKind}
-use Rattle.core_terms.specs.Signature.{Stands, signature_in}
+use Rattle.core_terms.specs.declared.signature.CoreDecl.{CoreDecl}
+use Rattle.core_terms.specs.Signature.{Stands, decl_of, fam_of, signature_in}
 use Rattle.core_terms.proofs.SignatureGrowth.{signature_in-extends, Stands-extends}
-use Rattle.kernel_rules.specs.Outcome.{Gives}
+use Rattle.kernel_rules.specs.Outcome.{Outcome}
+use Rattle.kernel_rules.specs.Outcome as outcome
 use Rattle.kernel_rules.specs.Refusals as kernel
 use Rattle.core_kernel.specs.declared.error.KernelError.{KernelError}
 use Rattle.core_kernel.specs.declared.error.KernelError.TheVariants as K
+use Rattle.core_kernel.specs.declared.error.FamilyError.{FamilyError}
+use Rattle.core_kernel.specs.declared.error.FamilyError.TheVariants as F
 use Rattle.core_kernel.specs.Answers as checks
-use Rattle.written_rules.specs.Refusals.{at}
-use Rattle.written_rules.specs.Expressions.{WrittenTypeOf}
-use Rattle.kernel_rules.specs.TermReading.{IsTypeOf}
-use Rattle.written_rules.proofs.ScopedForms.{expr_good}
+use Rattle.written_rules.specs.Refusals as written
 use Rattle.elab_machine.specs.declared.error.ElabKind.{ElabKind}
 use Rattle.elab_machine.specs.declared.error.ElabKind.TheVariants as E
 use Rattle.elab_machine.specs.declared.error.WrittenError.{WrittenError}
 use Rattle.elab_machine.specs.declared.error.WrittenError.TheVariants as W
-use Rattle.elab_machine.specs.Answers.{kind_in}
-use Rattle.elab_machine.specs.Written.{AnswersType}
+use Rattle.elab_machine.specs.Answers as exprs
+use Rattle.data_rules.specs.Refusals as families
+use Rattle.data_elab.specs.declared.error.DataKind.{DataKind}
+use Rattle.data_elab.specs.declared.error.DataKind.TheVariants as J
+use Rattle.data_elab.specs.declared.error.DataError.{DataError}
+use Rattle.data_elab.specs.declared.error.DataError.TheVariants as D
+use Rattle.data_elab.specs.Answers as declared_answers
+use Rattle.el_outside.specs.declared.place.Pos.{Pos}
 use Rattle.resolved_tree.specs.declared.resolved.ResolvedName.{ResolvedName}
 use Rattle.resolved_tree.specs.declared.resolved.ResolvedSignature.{ResolvedSignature}
-use Rattle.resolved_tree.specs.declared.resolved.ResolvedExpr.{ResolvedExpr}
 use Rattle.file_load.specs.declared.state.Core.{Core}
 use Rattle.file_load.specs.declared.stop.Stop.{Stop}
 use Rattle.file_load.specs.declared.stop.Stop.TheVariants as stop
-use Rattle.file_load.specs.Kinds.{elab_kind}
+use Rattle.file_load.specs.Kinds.{elab_kind, kernel_kind, family_kind, decl_kind}
 use Rattle.resolved_tree.specs.declared.resolved.Resolved.{Resolved}
 use Rattle.scope_table.specs.Known.{Known}
 use Rattle.scope_check.specs.declared.error.ScopeError.{ScopeError}
 use Rattle.scope_check.specs.declared.error.ScopeError.TheVariants as scope
 use Rattle.scope_check.specs.Resolves.{Resolves}
 use Rattle.source_tree.specs.declared.decl.Decl.{Decl}
-use Rattle.file_load.specs.Lines.{Judgement, DeclOf, LineOf, LinesOf, error_at, postulates}
-use Rattle.file_load.specs.Load.{Declares, Outcome}
-use Rattle.file_load.specs.Stops.{kind_of_elab, not_elaborated, not_checked}
-use Rattle.file_load.specs.Judged.{Agrees, IsDeclared, IsPostulate, IsNew, IsNotResolved, IsType, IsElaborated, IsChecked, Checks, Elaborates, Measures, Judges, JudgesType, LoadsDecl, LoadsDecls, declared, postulates_of}
-use Rattle.file_load.proofs.Accepted.{line_derivable}
+use Rattle.file_load.specs.Passes.{error_at}
+use Rattle.file_load.specs.Lines.{Judgement, Declared, DeclOf, LineOf, LinesOf, postulates}
+use Rattle.file_load.specs.Load.{Declares, Outcome as Loads}
+use Rattle.file_load.specs.Stops.{kind_of_elab, kind_of_family, not_elaborated, not_checked, family_not_elaborated, family_not_checked}
+use Rattle.file_load.specs.Judged.{Agrees, IsDeclared, IsNew, IsNotResolved, IsRefused, Stops, Judges, LoadsDecl, LoadsDecls, declared, family_in, postulates_of}
 
 -- ---- refusals
 
 module _ (p : Pool) where
-  same_kind : (k : ElabKind) → kind_of_elab k ≡ elab_kind (kind_in p k)
+  same_kind : (k : ElabKind) → kind_of_elab k ≡ elab_kind (exprs.kind_in p k)
   same_kind (E.Mismatch a b ys) = refl
   same_kind (E.DotWrong a b ys) = refl
   same_kind (E.NotAFunction a) = refl
@@ -69,49 +68,53 @@ module _ (p : Pool) where
   same_kind E.OutOfFuel = refl
   same_kind E.OutOfDepth = refl
 
+  same_family_kind : (k : DataKind) → kind_of_family k ≡ family_kind (declared_answers.kind_in p k)
+  same_family_kind J.BadSort = refl
+  same_family_kind J.ConShape = refl
+  same_family_kind J.TooBig = refl
+  same_family_kind (J.Elab k) = same_kind k
+
   -- what the written rules refuse
-  pub elab_stops : (g : Signature Term) (fuel depth : ℕ) (s : ResolvedSignature) (e : WrittenError) → AnswersType p (WrittenTypeOf g fuel depth [] s.ty) (Err e) → Elaborates g fuel depth s p (Err (not_elaborated e))
-  elab_stops g fuel depth s (W.Refused e) h = subst (λ (k : LoadKind). LineOf fuel depth g s (Err (error_at e.pos k))) (sym (same_kind e.kind)) (LineOf.unelaborated (at e.pos (kind_in p e.kind)) h.1)
-  elab_stops g fuel depth s W.NoMemory h = tt
+  pub elab_stops : {A : Type 0} (P : Outcome written.Refusal A → Type 0) (e : WrittenError) → exprs.RefusedBy p (λ r. P (outcome.Refuses r)) e → Stops (IsRefused P (λ e. error_at e.pos (elab_kind e.kind))) (not_elaborated e)
+  elab_stops P (W.Refused e) h = record { refusal = written.at e.pos (exprs.kind_in p e.kind); error = ap (error_at e.pos) (same_kind e.kind); is = h.1 }
+  elab_stops P W.NoMemory h = tt
+
+  -- of a data or record declaration
+  pub family_stops : {A : Type 0} (P : Outcome families.Refusal A → Type 0) (e : DataError) → declared_answers.RefusedBy p (λ r. P (outcome.Refuses r)) e
+      → Stops (IsRefused P (λ e. error_at e.pos (family_kind e.kind))) (family_not_elaborated e)
+  family_stops P (D.Bad q k) h = record { refusal = families.at q (declared_answers.kind_in p k); error = ap (error_at q) (same_family_kind k); is = h.1 }
+  family_stops P D.NoMemory h = tt
 
   -- what the kernel refuses
-  pub kernel_stops : (g : Signature Term) (fuel depth : ℕ) (s : ResolvedSignature) (t : Term) (e : KernelError) → checks.Answers p (IsTypeOf g fuel depth [] t) (Err e) → Checks g fuel depth s t (Err (not_checked s.place.pos e))
-  kernel_stops g fuel depth s t (K.Mismatch a b) h = record { refusal = kernel.Mismatch (tree p a) (tree p b); error = refl; is = h.2 }
-  kernel_stops g fuel depth s t (K.NotAFunction a) h = record { refusal = kernel.NotAFunction (tree p a); error = refl; is = h.1 }
-  kernel_stops g fuel depth s t (K.NotARecord a) h = record { refusal = kernel.NotARecord (tree p a); error = refl; is = h.1 }
-  kernel_stops g fuel depth s t (K.NotAType a) h = record { refusal = kernel.NotAType (tree p a); error = refl; is = h.1 }
-  kernel_stops g fuel depth s t K.LevelTooLarge h = record { refusal = kernel.LevelTooLarge; error = refl; is = h }
-  kernel_stops g fuel depth s t (K.MetaLeft m) h = record { refusal = kernel.MetaLeft m; error = refl; is = h }
-  kernel_stops g fuel depth s t K.OutOfFuel h = record { refusal = kernel.OutOfFuel; error = refl; is = h }
-  kernel_stops g fuel depth s t K.OutOfDepth h = record { refusal = kernel.OutOfDepth; error = refl; is = h }
-  kernel_stops g fuel depth s t K.NoMemory h = tt
+  pub kernel_stops : {A : Type 0} (P : Outcome kernel.Refusal A → Type 0) (q : Pos) (e : KernelError) → checks.RefusedBy p (λ r. P (outcome.Refuses r)) e → Stops (IsRefused P (λ e. error_at q (kernel_kind e))) (not_checked q e)
+  kernel_stops P q (K.Mismatch a b) h = record { refusal = kernel.Mismatch (tree p a) (tree p b); error = refl; is = h.2 }
+  kernel_stops P q (K.NotAFunction a) h = record { refusal = kernel.NotAFunction (tree p a); error = refl; is = h.1 }
+  kernel_stops P q (K.NotARecord a) h = record { refusal = kernel.NotARecord (tree p a); error = refl; is = h.1 }
+  kernel_stops P q (K.NotAType a) h = record { refusal = kernel.NotAType (tree p a); error = refl; is = h.1 }
+  kernel_stops P q K.LevelTooLarge h = record { refusal = kernel.LevelTooLarge; error = refl; is = h }
+  kernel_stops P q (K.MetaLeft m) h = record { refusal = kernel.MetaLeft m; error = refl; is = h }
+  kernel_stops P q K.OutOfFuel h = record { refusal = kernel.OutOfFuel; error = refl; is = h }
+  kernel_stops P q K.OutOfDepth h = record { refusal = kernel.OutOfDepth; error = refl; is = h }
+  kernel_stops P q K.NoMemory h = tt
 
--- what the written rules accept over a derivable signature is in scope
-pub type_in_scope : (g : Signature Term) (fuel depth : ℕ) (e : ResolvedExpr) (t : Term) (n : ℕ) → Derivable g → WrittenTypeOf g fuel depth [] e (Gives (t, n)) → InScope g any_meta 0 t
-type_in_scope g fuel depth e t n d w = (expr_good g (derivable-in_scope g d) fuel depth e).1 0 [] (t, n) tt w
+  -- of a term of a family
+  abbrev in_decl : Outcome kernel.Refusal (Unit {0}) → Outcome kernel.DeclRefusal (Unit {0})
+  in_decl (outcome.Gives o) = outcome.Gives o
+  in_decl (outcome.Refuses e) = outcome.Refuses (kernel.OfKernel e)
 
--- ---- the type of a line
+  of_term : (P : Outcome kernel.DeclRefusal (Unit {0}) → Type 0) (q : Pos) (s : Stop) → Stops (IsRefused (λ (r : Outcome kernel.Refusal (Unit {0})). P (in_decl r)) (λ e. error_at q (kernel_kind e))) s
+      → Stops (IsRefused P (λ e. error_at q (decl_kind e))) s
+  of_term P q (stop.Error e) h = record { refusal = kernel.OfKernel h.refusal; error = h.error; is = h.is }
+  of_term P q stop.NoMemory h = tt
 
-module _ (g : Signature Term) (fuel depth : ℕ) (s : ResolvedSignature) (p : Pool) (t : ℕ) (i : IsElaborated g fuel depth s p t) (new : Pool) where
-  pub measure_stops : (e : Stop) → Measures s (tree p t) (Err e) → JudgesType g s.names new (LineOf fuel depth g s) (Err e)
-  measure_stops (stop.Error e) m = subst (λ (e : LoadError). LineOf fuel depth g s (Err e)) (sym m.0) (LineOf.too_large (tree p t) i.level i.is m.1)
-  measure_stops stop.NoMemory m = tt
+  -- of a family
+  pub check_stops : (P : Outcome kernel.DeclRefusal (Unit {0}) → Type 0) (q : Pos) (e : FamilyError) → checks.AnswersFamily p P (Err e) → Stops (IsRefused P (λ e. error_at q (decl_kind e))) (family_not_checked q e)
+  check_stops P q (F.Kernel e) h = of_term P q (not_checked q e) (kernel_stops (λ (r : Outcome kernel.Refusal (Unit {0})). P (in_decl r)) q e h.1)
+  check_stops P q F.ConShape h = record { refusal = kernel.ConShape; error = refl; is = h }
+  check_stops P q F.TooBig h = record { refusal = kernel.TooBig; error = refl; is = h }
+  check_stops P q F.NoMemory h = tt
 
-  pub check_stops : count_of (tree p t) ≢ TooLarge → (e : Stop) → Checks g fuel depth s (tree p t) (Err e) → JudgesType g s.names new (LineOf fuel depth g s) (Err e)
-  check_stops m (stop.Error e) k = subst (λ (e : LoadError). LineOf fuel depth g s (Err e)) (sym k.error) (LineOf.refused (tree p t) i.level k.refusal i.is m k.is)
-  check_stops m stop.NoMemory k = tt
-
-  pub type_accepted : count_of (tree p t) ≢ TooLarge → IsChecked g fuel depth (tree p t) → Extends p new → IsType g s.names new (LineOf fuel depth g s) t
-  type_accepted m k e = record {
-    within = omega (arith, Extends-length e, i.within);
-    accepted = subst (λ (u : Term). LineOf fuel depth g s (Ok (g ++ postulates s.names u))) (sym (Extends-tree t e i.within)) (LineOf.accepted (tree p t) i.level k.level i.is m k.is);
-  }
-
--- ---- postulates of one type
-
-are_postulates : (xs : List ResolvedName) (t : ℕ) → AllByRecursion IsPostulate (postulates_of xs t)
-are_postulates [] t = tt
-are_postulates (x ∷ xs) t = (tt, are_postulates xs t)
+-- ---- what was declared, in the pool
 
 stand : (p : Pool) (xs : List ResolvedName) (t : ℕ) → t < length p.trees → Stands p (postulates_of xs t)
 stand p [] t l = tt
@@ -129,28 +132,42 @@ pub one_more : (g : Signature ℕ) (xs : List ResolvedName) (t i : ℕ) (x : Res
     → g ++ postulates_of (drop i xs) t ≡ (g ++ Postulate x.id t ∷ []) ++ postulates_of (drop (i + 1) xs) t
 one_more g xs t i x lt is = ap (λ (l : List ResolvedName). g ++ postulates_of l t) (drop_next xs i x lt is) ∙ sym (append_assoc g (Postulate x.id t ∷ []) (postulates_of (drop (i + 1) xs) t))
 
--- ---- lines
+-- ---- what passed is declared
 
--- the type t of the line is judged, and its names are declared
-pub accepts : (fuel depth : ℕ) (old new : Core) (s : ResolvedSignature) (t : ℕ) → Agrees old → Extends old.pool new.pool
-    → IsType (declared old) s.names new.pool (LineOf fuel depth (declared old) s) t
-    → new.signature ≡ old.signature ++ postulates_of s.names t → new.scope ≡ old.scope → IsDeclared old new (LineOf fuel depth (declared old) s)
-accepts fuel depth old new s t a e i signature scope =
+-- h was added, whose trees are hs
+accepts : (old new : Core) (h : Signature ℕ) (hs : Signature Term) (J : Judgement → Type 0) → Agrees old → Extends old.pool new.pool → new.signature ≡ old.signature ++ h → new.scope ≡ old.scope
+    → Stands new.pool h → signature_in new.pool h ≡ hs → J (Ok (declared old ++ hs)) → ((g : Signature Term) → J (Ok g) → Derivable g) → IsDeclared old new J
+accepts old new h hs J a e signature scope stands trees judged derivable =
     let kept : signature_in new.pool old.signature ≡ declared old = signature_in-extends old.pool new.pool old.signature e a.stands in
-    let now : declared new ≡ declared old ++ postulates s.names (tree new.pool t) =
-    ap (signature_in new.pool) signature ∙ in_append new.pool old.signature (postulates_of s.names t)
-    ∙ ap (λ (h : Signature Term). h ++ signature_in new.pool (postulates_of s.names t)) kept
-    ∙ ap (λ (h : Signature Term). declared old ++ h) (in_pool new.pool s.names t) in
-    let accepted : LineOf fuel depth (declared old) s (Ok (declared new)) = subst (λ (h : Signature Term). LineOf fuel depth (declared old) s (Ok h)) (sym now) i.accepted in
+    let now : declared new ≡ declared old ++ hs =
+    ap (signature_in new.pool) signature ∙ in_append new.pool old.signature h
+    ∙ ap (λ (g : Signature Term). g ++ signature_in new.pool h) kept
+    ∙ ap (λ (g : Signature Term). declared old ++ g) trees in
+    let accepted : J (Ok (declared new)) = subst (λ (g : Signature Term). J (Ok g)) (sym now) judged in
     record {
       agrees = record {
-        postulates = rw signature (all-append IsPostulate old.signature (postulates_of s.names t) a.postulates (are_postulates s.names t));
-        stands = rw signature (all-append _ old.signature (postulates_of s.names t) (Stands-extends old.pool new.pool old.signature e a.stands) (stand new.pool s.names t i.within));
-        derivable = line_derivable fuel depth accepted a.derivable (declared new) refl;
+        stands = rw signature (all-append _ old.signature h (Stands-extends old.pool new.pool old.signature e a.stands) stands);
+        derivable = derivable (declared new) accepted;
       };
       scope = scope;
       accepted = accepted;
     }
+
+-- the type t of the line passed, and its names were declared
+pub line_accepts : (P : Result (Term × ℕ) LoadError → Type 0) (old new : Core) (s : ResolvedSignature) (t n : ℕ) → Agrees old → Extends old.pool new.pool → t < length new.pool.trees
+    → P (Ok (tree new.pool t, n)) → new.signature ≡ old.signature ++ postulates_of s.names t → new.scope ≡ old.scope
+    → ((g : Signature Term) → Declared P (declared old) (λ q. postulates s.names q.0) (Ok g) → Derivable g) → IsDeclared old new (Declared P (declared old) (λ q. postulates s.names q.0))
+line_accepts P old new s t n a e within is signature scope derivable =
+    accepts old new (postulates_of s.names t) (postulates s.names (tree new.pool t)) (Declared P (declared old) (λ q. postulates s.names q.0)) a e signature scope (stand new.pool s.names t within)
+    (in_pool new.pool s.names t) (record { passed = Ok (tree new.pool t, n); passes = is; is = refl }) derivable
+
+-- a family passed, and was declared
+pub family_accepts : (P : Result (FamDecl Term) LoadError → Type 0) (old new : Core) (d : CoreDecl) → Agrees old → Extends old.pool new.pool → decl_of d ≡ Family (fam_of d)
+    → AllFamily (λ t. t < length new.pool.trees) (fam_of d) → P (Ok (family_in new.pool d)) → new.signature ≡ old.signature ++ decl_of d ∷ [] → new.scope ≡ old.scope
+    → ((g : Signature Term) → Declared P (declared old) (λ d. Family d ∷ []) (Ok g) → Derivable g) → IsDeclared old new (Declared P (declared old) (λ d. Family d ∷ []))
+family_accepts P old new d a e family within is signature scope derivable =
+    accepts old new (Family (fam_of d) ∷ []) (Family (family_in new.pool d) ∷ []) (Declared P (declared old) (λ d. Family d ∷ [])) a e (rw family at signature) scope (within, tt)
+    refl (record { passed = Ok (family_in new.pool d); passes = is; is = refl }) derivable
 
 -- ---- blocks
 
@@ -189,21 +206,19 @@ module _ (fuel depth : ℕ) where
   name_stops old new d o stop.NoMemory is n = tt
 
   pub decls_stop : (old mid new : Core) (ds : List Decl) (i : ℕ) (d : Decl) → i < length ds → d ≡ get_or ds i d
-      → ((result : Outcome) → Declares fuel depth mid.scope (declared mid) (drop i ds) result → Declares fuel depth old.scope (declared old) ds result)
+      → ((result : Loads) → Declares fuel depth mid.scope (declared mid) (drop i ds) result → Declares fuel depth old.scope (declared old) ds result)
       → (r : Stop) → LoadsDecl fuel depth mid new d (Err r) → LoadsDecls fuel depth old new ds (Err r)
   decls_stop old mid new ds i d lt is left (stop.Error e) l = left (Err e) (subst (λ (ds : List Decl). Declares fuel depth mid.scope (declared mid) ds (Err e)) (sym (drop_next ds i d lt is)) (l (drop (i + 1) ds)))
   decls_stop old mid new ds i d lt is left stop.NoMemory l = tt
 
 pub agrees_so : (old new : Core) → new.pool ≡ old.pool → new.signature ≡ old.signature → Agrees old → Agrees new
 agrees_so old new p g a = record {
-  postulates = rw g a.postulates;
   stands = rw (p, g) a.stands;
   derivable = rw (p, g) a.derivable;
 }
 
 pub agrees_new : (k : Core) → IsNew k → Agrees k
 agrees_new k n = record {
-  postulates = rw n.signature tt;
   stands = rw n.signature tt;
   derivable = rw n.signature derivable-empty;
 }

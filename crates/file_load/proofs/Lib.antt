@@ -3,5 +3,8 @@ pub mod Existing
 pub mod Firsts
 pub mod Judging
 pub mod Loading
+pub mod Passing
+pub mod Sizing
+pub mod Steps
 pub mod Told
 pub mod Unique

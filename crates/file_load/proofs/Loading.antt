@@ -1,11 +1,10 @@
 -- The stages of the load, put together.
-use Rattle.std.proofs.Common.{◌≡◌, ◌≤◌, ℕ, suc, false, List, [], ◌∷◌, length, Ok, Err, refl, sym, ap, subst, ◌∙◌, arith}
+use Rattle.std.proofs.Common.{◌≡◌, ◌≤◌, ◌+◌, ℕ, false, List, [], ◌∷◌, length, Ok, Err, refl, sym, ap, subst, ◌∙◌, arith}
 use Rattle.std.specs.Prelude.{nat_lt}
-use Rattle.std.specs.List.{AllByRecursion}
 use Rattle.std.proofs.lemmas.List.{length-map}
 use Rattle.std.proofs.lemmas.Bool.Decides.{nat_tests}
 use Rattle.el_outside.specs.Place.{Place}
-use Rattle.core_rules.specs.Signature.{Signature, Postulate, Family, Open, Function, defs}
+use Rattle.core_rules.specs.Signature.{Signature, Postulate, Family, Open, Function, defs, fams}
 use Rattle.core_rules.specs.Mapped.{decl_map}
 use Rattle.term_pool.specs.Pool.{tree}
 use Rattle.source_tree.specs.declared.decl.File.{File}
@@ -16,8 +15,8 @@ use Rattle.core_terms.specs.Signature.{signature_in}
 use Rattle.file_load.specs.declared.loaded_file.LoadedFile.{LoadedFile}
 use Rattle.file_load.specs.declared.loaded_file.Loaded.{Loaded}
 use Rattle.file_load.specs.declared.loaded_file.Loaded.TheVariants as answer
-use Rattle.file_load.specs.LoadedFile.{Answers, names_of, pool_of, report_of, signature_of}
-use Rattle.file_load.specs.Judged.{Agrees, IsNew, IsPostulate, declared}
+use Rattle.file_load.specs.LoadedFile.{Answers, IsOf, pool_of, signature_of}
+use Rattle.file_load.specs.Judged.{Agrees, IsNew, declared}
 use Rattle.file_load.specs.Load.{Declares, DeclaresFile, IsInError, Reads, complete_report, reaches}
 use Rattle.file_load.specs.Stages.{FileAnswers, IsError, IsFileDone}
 use Rattle.file_load.proofs.Accepted.{signature_derivable}
@@ -43,25 +42,25 @@ module _ (fuel depth : ℕ) where
   is_error text (answer.Done f) e r h = absurd h
   is_error text answer.NoMemory e r h = tt
 
--- postulates alone have their ids
-all_defs : (g : Signature ℕ) → AllByRecursion IsPostulate g → length (defs g) ≡ length g
-all_defs [] a = refl
-all_defs (Postulate x t ∷ g) a = ap suc (all_defs g a.1)
-all_defs (Family d ∷ g) a = absurd a.0
-all_defs (Open x t ∷ g) a = absurd a.0
-all_defs (Function x t qs T ∷ g) a = absurd a.0
+-- each declaration is a postulate or function, or a family
+all_kinds : (g : Signature ℕ) → length (defs g) + length (fams g) ≡ length g
+all_kinds [] = refl
+all_kinds (Postulate x t ∷ g) = omega (arith, all_kinds g)
+all_kinds (Family d ∷ g) = omega (arith, all_kinds g)
+all_kinds (Open x t ∷ g) = omega (arith, all_kinds g)
+all_kinds (Function x t qs T ∷ g) = omega (arith, all_kinds g)
 
 pub is_made : (fuel depth : ℕ) (file : File) (old new : Core) (f : LoadedFile) → IsNew old → Declares fuel depth old.scope (declared old) file.decls (Ok (new.scope, declared new)) → Agrees new
-    → report_of f ≡ complete_report (length (defs new.signature)) → names_of f ≡ new.scope.names → pool_of f ≡ new.pool → signature_of f ≡ new.signature → IsFileDone fuel depth file f
-is_made fuel depth file old new f is h a report names pool signature =
-    let same : signature_in (pool_of f) (signature_of f) ≡ declared new = rw (pool, signature) refl in
-    let count : length (defs new.signature) ≡ length (declared new) = all_defs new.signature a.postulates ∙ sym (length-map new.signature (decl_map (tree new.pool))) in
+    → IsOf f (length (defs new.signature) + length (fams new.signature)) new.scope.names new.pool new.signature → IsFileDone fuel depth file f
+is_made fuel depth file old new f is h a of =
+    let same : signature_in (pool_of f) (signature_of f) ≡ declared new = rw (of.pool, of.signature) refl in
+    let count : length (defs new.signature) + length (fams new.signature) ≡ length (declared new) = all_kinds new.signature ∙ sym (length-map new.signature (decl_map (tree new.pool))) in
     record {
       made = record {
         known = new.scope;
         loads = subst (λ (g : Signature Term). DeclaresFile fuel depth file (Ok (new.scope, g))) (sym same) (rw is.scope at (rw is.signature at h));
-        names = names;
-        report = report ∙ ap complete_report (count ∙ ap length (sym same));
+        names = of.names;
+        report = of.report ∙ ap complete_report (count ∙ ap length (sym same));
       };
-      stands = rw (pool, signature) a.stands;
+      stands = rw (of.pool, of.signature) a.stands;
     }

@@ -5,6 +5,7 @@ use Rattle.source_tree.specs.declared.expr.Binder.{Binder}
 use Rattle.source_tree.specs.declared.expr.FieldValue.{FieldValue}
 use Rattle.source_tree.specs.declared.place.Name.{Name}
 use Rattle.source_tree.specs.declared.decl.Signature.{Signature}
+use Rattle.source_tree.specs.declared.decl.RecordItem.{RecordItem}
 use Rattle.source_tree.specs.declared.decl.Decl.{Decl}
 use Rattle.source_tree.specs.declared.decl.Decl.TheVariants as d
 use Rattle.file_load.specs.Unbuilt.{in_decl}
@@ -12,11 +13,13 @@ use Rattle.scope_check.specs.declared.error.ScopeError.{ScopeError}
 use Rattle.scope_check.specs.declared.error.ScopeError.TheVariants.{Bad, NoMemory}
 use Rattle.scope_check.specs.declared.head.Head.{Head}
 use Rattle.scope_check.specs.declared.holes.Holes.{Holes}
+use Rattle.scope_check.specs.declared.parts.Parts.{Parts}
 use Rattle.resolved_tree.specs.declared.resolved.Resolved.{Resolved}
 use Rattle.resolved_tree.specs.declared.resolved.ResolvedExpr.{ResolvedExpr}
 use Rattle.resolved_tree.specs.declared.resolved.ResolvedArg.{ResolvedArg}
 use Rattle.resolved_tree.specs.declared.resolved.ResolvedBinder.{ResolvedBinder}
 use Rattle.resolved_tree.specs.declared.resolved.ResolvedSignature.{ResolvedSignature}
+use Rattle.resolved_tree.specs.declared.resolved.ResolvedItem.{ResolvedItem}
 use Rattle.resolved_tree.specs.declared.resolved.ResolvedValue.{ResolvedValue}
 use Rattle.scope_check.specs.Answers.{Checked, made}
 use Rattle.scope_table.specs.Known.{Known}
@@ -27,7 +30,7 @@ use Rattle.scope_check.specs.ResolvesNames as n
 use Rattle.scope_check.specs.ResolvesExprs as c
 use Rattle.scope_check.specs.ResolvesExprs.{ExprForm, ArgForm, BinderForm, ValueForm, ResolvesHead, ResolvesExpr, ResolvesArg, ResolvesArgs, ResolvesBinder, ResolvesBinders, ResolvesBehind, ResolvesValue, ResolvesValues}
 use Rattle.scope_check.specs.Resolves as w
-use Rattle.scope_check.specs.Resolves.{NewNames, PostulateLine, PostulateLines, Resolves}
+use Rattle.scope_check.specs.Resolves.{NewNames, NewFields, PostulateLine, PostulateLines, OpensFields, ConLine, ConLines, FieldLine, FieldLines, ResolvesItem, ResolvesItems, Resolves}
 
 abbrev pub HasPlace : ScopeError → Type 0
 HasPlace (Bad p j x) = Unit {0}
@@ -139,11 +142,60 @@ lines_told w.no_postulate = tt
 lines_told (w.postulate_refused s) = line_told s
 lines_told (w.next_postulate {m = m} s more) = told_made _ m (lines_told more)
 
+-- ---- records and data types
+
+fields_told : {seen : Texts} {xs : List Name} {m : Checked Texts} → NewFields seen xs m → IsTold m
+fields_told w.all_fields_are_new = tt
+fields_told (w.field_declared_twice e) = tt
+fields_told (w.field_is_new e more) = fields_told more
+
+opened_told : {x : Name} {f : ℕ} {ys : Texts} {k : Known} {m : Checked Known} → OpensFields x f ys k m → IsTold m
+opened_told w.no_field_left = tt
+opened_told (w.field_named_as_a_global e) = tt
+opened_told (w.next_field e more) = opened_told more
+
+con_line_told : {k : Known} {ls : Locals} {seen : Texts} {s : Signature} {m : Checked (ResolvedSignature × Texts)} → ConLine k ls seen s m → IsTold m
+con_line_told (w.con_names_refused xs) = new_told xs
+con_line_told (w.con_line {m = m} xs a) = told_made _ m (expr_told a)
+
+con_lines_told : {k : Known} {ls : Locals} {seen : Texts} {ss : List Signature} {m : Checked (List ResolvedSignature × Texts)} → ConLines k ls seen ss m → IsTold m
+con_lines_told w.no_con = tt
+con_lines_told (w.con_refused s) = con_line_told s
+con_lines_told (w.next_con {m = m} s more) = told_made _ m (con_lines_told more)
+
+field_line_told : {k : Known} {r : Parts} {s : Signature} {m : Checked (ResolvedSignature × Parts)} → FieldLine k r s m → IsTold m
+field_line_told (w.field_names_refused xs) = fields_told xs
+field_line_told (w.field_line {m = m} xs a) = told_made _ m (expr_told a)
+
+field_lines_told : {k : Known} {r : Parts} {ss : List Signature} {m : Checked (List ResolvedSignature × Parts)} → FieldLines k r ss m → IsTold m
+field_lines_told w.no_field_line = tt
+field_lines_told (w.field_line_refused s) = field_line_told s
+field_lines_told (w.next_field_line {m = m} s more) = told_made _ m (field_lines_told more)
+
+item_told : {k : Known} {r : Parts} {x : RecordItem} {m : Checked (ResolvedItem × Parts)} → ResolvesItem k r x m → IsTold m
+item_told w.inductive = tt
+item_told w.coinductive = tt
+item_told (w.con_declared_again e) = tt
+item_told (w.second_con e f) = tt
+item_told (w.con e f) = tt
+item_told (w.fields {m = m} ls) = told_made _ m (field_lines_told ls)
+
+items_told : {k : Known} {r : Parts} {xs : List RecordItem} {m : Checked (List ResolvedItem × Parts)} → ResolvesItems k r xs m → IsTold m
+items_told w.no_item = tt
+items_told (w.item_refused x) = item_told x
+items_told (w.next_item {m = m} x more) = told_made _ m (items_told more)
+
 -- a declaration whose forms are built
 pub resolves_told : (k : Known) (x : Decl) {m : Checked (Resolved × Known)} → in_decl x ≡ None → Resolves k x m → IsTold m
 resolves_told k (d.Postulate p ss) e (w.postulates {m = m} ls) = told_made _ m (lines_told ls)
 resolves_told k (d.Function p s cs) e r = absurd cc
 resolves_told k (d.Clause cl) e r = absurd cc
-resolves_told k (d.Open p x b) e r = absurd cc
-resolves_told k (d.«Data» p x bs a ss) e r = absurd cc
-resolves_told k (d.Record p x bs a is) e r = absurd cc
+resolves_told k (d.Open p x b) e (w.opens_unknown o) = tt
+resolves_told k (d.Open p x b) e (w.opens_no_record o r) = tt
+resolves_told k (d.Open p x b) e (w.opens_record {m = m} o f os) = told_made _ m (opened_told os)
+resolves_told k (d.«Data» p x bs a ss) e (w.data_type_declared_again o) = tt
+resolves_told k (d.«Data» p x bs a ss) e (w.head_of_data_type_refused o h) = behind_told h
+resolves_told k (d.«Data» p x bs a ss) e (w.data_type {m = m} o h ls) = told_made _ m (con_lines_told ls)
+resolves_told k (d.Record p x bs a is) e (w.record_declared_again o) = tt
+resolves_told k (d.Record p x bs a is) e (w.head_of_record_refused o h) = behind_told h
+resolves_told k (d.Record p x bs a is) e (w.record_type {m = m} o h xs) = told_made _ m (items_told xs)

@@ -1,5 +1,5 @@
 -- One thing at most is said of a text.
-use Rattle.std.proofs.Common.{◌≡◌, ◌≢◌, ◌<◌, ℕ, List, [], ◌++◌, length, take, Some, None, Ok, Err, refl, sym, ap, ◌∙◌, arith}
+use Rattle.std.proofs.Common.{◌≡◌, ◌≢◌, ◌<◌, ℕ, List, [], ◌∷◌, length, take, Some, None, Ok, Err, refl, sym, ap, ◌∙◌, arith}
 use Rattle.std.proofs.Common.{subst as along}
 use Rattle.std.specs.Prelude.{Result}
 use Rattle.std.specs.Str.{IsUtf8, IsValidUpTo}
@@ -25,25 +25,25 @@ use Rattle.scope_check.specs.Answers.{Checked}
 use Rattle.scope_table.specs.Known.{Known}
 use Rattle.scope_check.proofs.DeclCases.{one_answer as resolved_once}
 use Rattle.core_rules.specs.Term.{Term}
-use Rattle.core_rules.specs.Signature.{Signature}
+use Rattle.core_rules.specs.Signature.{Signature, Family}
 use Rattle.session_text.specs.declared.error.LoadError.{LoadError}
 use Rattle.session_text.specs.declared.error.LoadKind.TheVariants as kind
 use Rattle.file_load.specs.Unbuilt.{in_file}
-use Rattle.term_pool.specs.Count.{count_of}
-use Rattle.term_pool.specs.declared.count.Count.TheVariants.{TooLarge}
-use Rattle.kernel_rules.specs.Outcome.{Gives, Refuses}
-use Rattle.kernel_rules.specs.Outcome as outcome
-use Rattle.kernel_rules.specs.Refusals as kernel
 use Rattle.kernel_rules.specs.TermReading.{IsTypeOf}
-use Rattle.kernel_rules.proofs.Outcome.{one_gives, one_refuses}
+use Rattle.kernel_rules.specs.FamilyReading.{FamilyOf}
 use Rattle.kernel_rules.proofs.OneTerm.{one-is_type}
-use Rattle.written_rules.specs.Refusals.{Refusal}
+use Rattle.kernel_rules.proofs.OneDecl.{one-family}
+use Rattle.data_rules.specs.Families.{IsFamily, WrittenFamilyOf}
+use Rattle.data_rules.proofs.Exactly.{family-exactly}
 use Rattle.written_rules.specs.Expressions.{WrittenTypeOf, expr_meaning}
 use Rattle.written_rules.proofs.Comes.{comes_once}
 use Rattle.resolved_tree.specs.declared.resolved.ResolvedSignature.{ResolvedSignature}
 use Rattle.resolved_tree.specs.declared.resolved.Resolved.TheVariants as rd
-use Rattle.file_load.specs.Kinds.{elab_kind, kernel_kind}
-use Rattle.file_load.specs.Lines.{Judgement, LineOf, LinesOf, DeclOf, error_at, postulates}
+use Rattle.file_load.specs.Kinds.{elab_kind, kernel_kind, family_kind, decl_kind}
+use Rattle.file_load.specs.Passes.{error_at}
+use Rattle.file_load.specs.Sizes.{terms_of}
+use Rattle.file_load.specs.Lines.{Judgement, LineOf, LinesOf, FamilyDeclOf, DeclOf, added, postulates}
+use Rattle.file_load.proofs.Passing.{passes_once}
 use Rattle.file_load.specs.Load.{Declares, DeclaresFile, HasVerdict, IsInError, IsLexed, IsLoaded, IsParsed, Made, Outcome, Reads, Verdict, complete_report, lex_kind, parse_kind, place_of_byte}
 
 -- ---- the stages
@@ -165,43 +165,18 @@ module _ {text : List ℕ} where
 -- ---- lines
 
 module _ (fuel depth : ℕ) where
-  type_once : (g : Signature Term) (s : ResolvedSignature) (a b : outcome.Outcome Refusal (Term × ℕ)) → WrittenTypeOf g fuel depth [] s.ty a → WrittenTypeOf g fuel depth [] s.ty b → a ≡ b
-  type_once g s a b w v = comes_once g fuel depth ((expr_meaning g s.ty).types []) a b w v
+  line_once : (g : Signature Term) (s : ResolvedSignature) {a b : Judgement} → LineOf fuel depth g s a → LineOf fuel depth g s b → a ≡ b
+  line_once g s x y =
+      let one = passes_once (WrittenTypeOf g fuel depth [] s.ty) (λ e. error_at e.pos (elab_kind e.kind)) (λ q. q.0 ∷ []) (λ q. IsTypeOf g fuel depth [] q.0) kernel_kind s.place.pos
+      (λ a b w v. comes_once g fuel depth ((expr_meaning g s.ty).types []) a b w v) (λ q a b k l. one-is_type g fuel depth [] q.0 a b k l) x.passes y.passes in
+      x.is ∙ ap (added g (λ q. postulates s.names q.0)) one ∙ sym y.is
 
-  -- the terms that are given are one
-  term_once : (g : Signature Term) (s : ResolvedSignature) (t u : Term) (m n : ℕ) → WrittenTypeOf g fuel depth [] s.ty (Gives (t, m)) → WrittenTypeOf g fuel depth [] s.ty (Gives (u, n)) → t ≡ u
-  term_once g s t u m n w v = ap (λ (q : Term × ℕ). q.0) (one_gives (type_once g s (Gives (t, m)) (Gives (u, n)) w v))
-
-  not_both_ways : {A : Type 0} (g : Signature Term) (s : ResolvedSignature) (e : Refusal) (q : Term × ℕ) → WrittenTypeOf g fuel depth [] s.ty (Refuses e) → WrittenTypeOf g fuel depth [] s.ty (Gives q) → A
-  not_both_ways g s e q w v = let one = type_once g s (Refuses e) (Gives q) w v in absurd cc
-
-  kernel_once : (g : Signature Term) (t u : Term) (a b : outcome.Outcome kernel.Refusal ℕ) → t ≡ u → IsTypeOf g fuel depth [] t a → IsTypeOf g fuel depth [] u b → a ≡ b
-  kernel_once g t u a b e k l = one-is_type g fuel depth [] t a b k (along (λ (u : Term). IsTypeOf g fuel depth [] u b) (sym e) l)
-
-  kernel_not_both : {A : Type 0} (g : Signature Term) (t u : Term) (e : kernel.Refusal) (n : ℕ) → t ≡ u → IsTypeOf g fuel depth [] t (Refuses e) → IsTypeOf g fuel depth [] u (Gives n) → A
-  kernel_not_both g t u e n same k l = let one = kernel_once g t u (Refuses e) (Gives n) same k l in absurd cc
-
-  size_of : {A : Type 0} (t u : Term) → t ≡ u → count_of t ≡ TooLarge → count_of u ≢ TooLarge → A
-  size_of t u e m n = absurd (n (ap count_of (sym e) ∙ m))
-
-  line_once : {g : Signature Term} {s : ResolvedSignature} {a b : Judgement} → LineOf fuel depth g s a → LineOf fuel depth g s b → a ≡ b
-  line_once {g = g} {s = s} (LineOf.unelaborated d w) (LineOf.unelaborated e v) = ap (λ (e : Refusal). Err (error_at e.pos (elab_kind e.kind))) (one_refuses (type_once g s (Refuses d) (Refuses e) w v))
-  line_once {g = g} {s = s} (LineOf.unelaborated d w) (LineOf.too_large u j v m) = not_both_ways g s d (u, j) w v
-  line_once {g = g} {s = s} (LineOf.unelaborated d w) (LineOf.refused u j e v m k) = not_both_ways g s d (u, j) w v
-  line_once {g = g} {s = s} (LineOf.unelaborated d w) (LineOf.accepted u j n v m k) = not_both_ways g s d (u, j) w v
-  line_once {g = g} {s = s} (LineOf.too_large t i w m) (LineOf.unelaborated e v) = not_both_ways g s e (t, i) v w
-  line_once (LineOf.too_large t i w m) (LineOf.too_large u j v n) = refl
-  line_once {g = g} {s = s} (LineOf.too_large t i w m) (LineOf.refused u j e v n k) = size_of t u (term_once g s t u i j w v) m n
-  line_once {g = g} {s = s} (LineOf.too_large t i w m) (LineOf.accepted u j l v n k) = size_of t u (term_once g s t u i j w v) m n
-  line_once {g = g} {s = s} (LineOf.refused t i d w m k) (LineOf.unelaborated e v) = not_both_ways g s e (t, i) v w
-  line_once {g = g} {s = s} (LineOf.refused t i d w m k) (LineOf.too_large u j v n) = size_of u t (term_once g s u t j i v w) n m
-  line_once {g = g} {s = s} (LineOf.refused t i d w m k) (LineOf.refused u j e v n l) =
-      ap (λ (e : kernel.Refusal). Err (error_at s.place.pos (kernel_kind e))) (one_refuses (kernel_once g t u (Refuses d) (Refuses e) (term_once g s t u i j w v) k l))
-  line_once {g = g} {s = s} (LineOf.refused t i d w m k) (LineOf.accepted u j e v n l) = kernel_not_both g t u d e (term_once g s t u i j w v) k l
-  line_once {g = g} {s = s} (LineOf.accepted t i d w m k) (LineOf.unelaborated e v) = not_both_ways g s e (t, i) v w
-  line_once {g = g} {s = s} (LineOf.accepted t i d w m k) (LineOf.too_large u j v n) = size_of u t (term_once g s u t j i v w) n m
-  line_once {g = g} {s = s} (LineOf.accepted t i d w m k) (LineOf.refused u j e v n l) = kernel_not_both g u t e d (term_once g s u t j i v w) l k
-  line_once {g = g} {s = s} (LineOf.accepted t i d w m k) (LineOf.accepted u j e v n l) = ap (λ (t : Term). Ok (g ++ postulates s.names t)) (term_once g s t u i j w v)
+  family_once : (g : Signature Term) (p : Pos) (x : Resolved) {a b : Judgement} → IsFamily x → FamilyDeclOf fuel depth g p x a → FamilyDeclOf fuel depth g p x b → a ≡ b
+  family_once g p x f y z =
+      let each = (family-exactly g fuel depth x f).2 in
+      let one = passes_once (WrittenFamilyOf g fuel depth x) (λ e. error_at e.pos (family_kind e.kind)) terms_of (FamilyOf g fuel depth) decl_kind p
+      (λ a b w v. each a w ∙ sym (each b v)) (λ d a b k l. one-family g fuel depth d a b k l) y.passes z.passes in
+      y.is ∙ ap (added g (λ d. Family d ∷ [])) one ∙ sym z.is
 
 abbrev stopped : LoadError → Judgement
 stopped e = Err e
@@ -214,11 +189,11 @@ one_signature_of g h e = cc
 
 lines_once : {fuel depth : ℕ} {g : Signature Term} {ss : List ResolvedSignature} {a b : Judgement} → LinesOf fuel depth g ss a → LinesOf fuel depth g ss b → a ≡ b
 lines_once LinesOf.none LinesOf.none = refl
-lines_once (LinesOf.stopped l) (LinesOf.stopped m) = line_once _ _ l m
-lines_once (LinesOf.stopped l) (LinesOf.further m ms) = let one = line_once _ _ l m in absurd cc
-lines_once (LinesOf.further l ls) (LinesOf.stopped m) = let one = line_once _ _ l m in absurd cc
-lines_once {fuel = fuel} {depth = depth} {b = b} (LinesOf.further {h = f} {ss = ss} l ls) (LinesOf.further {h = h} m ms) =
-    lines_once ls (along (λ (i : Signature Term). LinesOf fuel depth i ss b) (one_signature_of h f (line_once _ _ m l)) ms)
+lines_once {fuel = fuel} {depth = depth} (LinesOf.stopped {g = g} {s = s} l) (LinesOf.stopped m) = line_once fuel depth g s l m
+lines_once {fuel = fuel} {depth = depth} (LinesOf.stopped {g = g} {s = s} l) (LinesOf.further m ms) = let one = line_once fuel depth g s l m in absurd cc
+lines_once {fuel = fuel} {depth = depth} (LinesOf.further {g = g} {s = s} l ls) (LinesOf.stopped m) = let one = line_once fuel depth g s l m in absurd cc
+lines_once {fuel = fuel} {depth = depth} {b = b} (LinesOf.further {g = g} {h = f} {s = s} {ss = ss} l ls) (LinesOf.further {h = h} m ms) =
+    lines_once ls (along (λ (i : Signature Term). LinesOf fuel depth i ss b) (one_signature_of h f (line_once fuel depth g s m l)) ms)
 
 -- ---- the declarations
 
@@ -233,8 +208,8 @@ decl_once : (fuel depth : ℕ) (g : Signature Term) (a b : Judgement) (r : Resol
 decl_once fuel depth g a b (rd.Postulate p ss) j i = lines_once j i
 decl_once fuel depth g a b (rd.Function p s cs) j i = j ∙ sym i
 decl_once fuel depth g a b (rd.Open p x e) j i = j ∙ sym i
-decl_once fuel depth g a b (rd.«Data» p x bs c ss) j i = j ∙ sym i
-decl_once fuel depth g a b (rd.Record p x bs c xs) j i = j ∙ sym i
+decl_once fuel depth g a b (rd.«Data» p x bs c ss) j i = family_once fuel depth g x.place.pos (rd.«Data» p x bs c ss) tt j i
+decl_once fuel depth g a b (rd.Record p x bs c xs) j i = family_once fuel depth g x.place.pos (rd.Record p x bs c xs) tt j i
 
 judgement_once : (fuel depth : ℕ) (g : Signature Term) (a b : Judgement) (r q : Resolved) → r ≡ q → DeclOf fuel depth g r a → DeclOf fuel depth g q b → a ≡ b
 judgement_once fuel depth g a b r q e j i = decl_once fuel depth g a b r j (along (λ (q : Resolved). DeclOf fuel depth g q b) (sym e) i)

@@ -1,6 +1,7 @@
--- The kinds of errors, by why a type is refused.
+-- The kinds of errors, by why a type or a family is refused.
 use Rattle.written_rules.specs.Refusals as written
 use Rattle.kernel_rules.specs.Refusals as kernel
+use Rattle.data_rules.specs.Refusals as families
 use Rattle.session_text.specs.declared.error.KernelKind.TheVariants as k
 use Rattle.session_text.specs.declared.error.LoadKind.{LoadKind}
 use Rattle.session_text.specs.declared.error.LoadKind.TheVariants as kind
@@ -27,3 +28,15 @@ kernel_kind kernel.LevelTooLarge = kind.Kernel k.LevelTooLarge
 kernel_kind (kernel.MetaLeft m) = kind.CannotInfer
 kernel_kind kernel.OutOfFuel = kind.Kernel k.OutOfFuel
 kernel_kind kernel.OutOfDepth = kind.Kernel k.OutOfDepth
+
+abbrev pub family_kind : families.Kind → LoadKind
+family_kind families.BadSort = kind.BadSort
+family_kind families.ConShape = kind.ConShape
+family_kind families.TooBig = kind.TooBig
+family_kind (families.Elab k) = elab_kind k
+
+abbrev pub decl_kind : kernel.DeclRefusal → LoadKind
+decl_kind (kernel.OfKernel e) = kernel_kind e
+decl_kind kernel.ConShape = kind.Kernel k.ConShape
+decl_kind kernel.TooBig = kind.Kernel k.TooBig
+decl_kind kernel.BadTree = kind.Kernel k.BadTree

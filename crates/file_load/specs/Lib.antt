@@ -1,5 +1,8 @@
 pub mod Judged
 pub mod Kinds
+pub mod Sizes
+pub mod Passes
+pub mod Room
 pub mod Lines
 pub mod Unbuilt
 pub mod Load

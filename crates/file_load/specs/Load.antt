@@ -32,7 +32,8 @@ use Rattle.session_text.specs.declared.error.LoadKind.{LoadKind}
 use Rattle.session_text.specs.declared.error.LoadKind.TheVariants as kind
 use Rattle.session_text.specs.declared.report.Report.{Report}
 use Rattle.file_load.specs.Unbuilt.{in_file}
-use Rattle.file_load.specs.Lines.{DeclOf, error_at}
+use Rattle.file_load.specs.Passes.{error_at}
+use Rattle.file_load.specs.Lines.{DeclOf}
 
 -- ---- errors
 

@@ -1,5 +1,5 @@
 -- What contracts see of a loaded file, and of the answer to a text.
-use Rattle.std.specs.Prelude.{ℕ, List, ⊤, Ok, Err}
+use Rattle.std.specs.Prelude.{◌≡◌, ℕ, List, ⊤, Ok, Err}
 use Rattle.core_rules.specs.Signature.{Signature}
 use Rattle.term_pool.specs.Pool.{Pool}
 use Rattle.core_terms.specs.Signature.{Stands, signature_in}
@@ -7,7 +7,7 @@ use Rattle.session_text.specs.declared.report.Report.{Report}
 use Rattle.file_load.specs.declared.loaded_file.LoadedFile.{LoadedFile}
 use Rattle.file_load.specs.declared.loaded_file.Loaded.{Loaded}
 use Rattle.file_load.specs.declared.loaded_file.Loaded.TheVariants as answer
-use Rattle.file_load.specs.Load.{HasVerdict, Made}
+use Rattle.file_load.specs.Load.{HasVerdict, Made, complete_report}
 
 abbrev pub report_of : LoadedFile → Report
 report_of f = f.report
@@ -21,6 +21,13 @@ pool_of f = f.pool
 -- the signature, whose types are ids of the pool
 abbrev pub signature_of : LoadedFile → Signature ℕ
 signature_of f = f.signature
+
+-- f was made of so many declarations, with these names, this pool and this signature
+pub record IsOf (f : LoadedFile) (n : ℕ) (xs : List (List ℕ)) (p : Pool) (g : Signature ℕ) : Type 0 where
+  pub report : report_of f ≡ complete_report n
+  pub names : names_of f ≡ xs
+  pub pool : pool_of f ≡ p
+  pub signature : signature_of f ≡ g
 
 -- what was made of the text
 abbrev pub made_of : LoadedFile → Made

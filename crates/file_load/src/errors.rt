@@ -1,5 +1,5 @@
 ghost use Rattle.std.specs.Prelude.{◌≡◌, IfOk};
-ghost use Rattle.file_load.specs.Lines.{error_at as told_at};
+ghost use Rattle.file_load.specs.Passes.{error_at as told_at};
 ghost use Rattle.file_load.specs.Load as spec;
 
 use el_outside::{Many, NoMemory, Pos, Text};

@@ -3,9 +3,12 @@
 #![tactic(auto)]
 
 mod errors;
+mod families;
 mod judge;
 pub mod laws;
+mod lines;
 mod loaded_file;
+mod measure;
 mod stages;
 mod state;
 mod stop;

@@ -1,7 +1,7 @@
 ghost use Rattle.std.specs.Prelude.{◌≡◌};
 ghost use Rattle.file_load.specs.Load.{complete_report};
 
-use core_terms::{Names, Signature, TermPool};
+use core_terms::{Names, NoMemory, Signature, TermPool};
 use el_outside::Many;
 use scope_check::Scope;
 use session_text::{LoadError, Report};
@@ -41,24 +41,28 @@ fn complete(alloc: Global, declarations: u32) -> Report
 }
 
 impl LoadedFile {
-    ghost use Rattle.std.specs.Prelude.{length};
-    ghost use Rattle.core_rules.specs.Signature.{defs};
-    ghost use Rattle.file_load.specs.LoadedFile.{names_of, pool_of, report_of, signature_of};
+    ghost use Rattle.std.specs.Prelude.{◌+◌, length, IfOk};
+    ghost use Rattle.core_rules.specs.Signature.{defs, fams};
+    ghost use Rattle.file_load.specs.LoadedFile.{IsOf, names_of, pool_of, report_of, signature_of};
 
-    /// The file whose declarations made this signature.
-    pub fn new(alloc: Global, scope: Scope, pool: TermPool, signature: Signature) -> LoadedFile
-        ensures report { report_of result ≡ complete_report (length (defs signature)) }
-        ensures names { names_of result ≡ scope.names }
-        ensures pool { pool_of result ≡ pool }
-        ensures signature { signature_of result ≡ signature }
+    /// The file whose declarations made this signature. There is not enough memory where it has more of them than a report counts.
+    pub fn new(
+        alloc: Global,
+        scope: Scope,
+        pool: TermPool,
+        signature: Signature,
+    ) -> Result<LoadedFile, NoMemory>
+        ensures { IfOk result (λ f. IsOf f (length (defs signature) + length (fams signature)) scope.names pool signature) }
     {
-        let report = complete(alloc, signature.defs());
-        LoadedFile {
-            report,
+        let Some(declarations) = signature.defs().checked_add(signature.fams()) else {
+            return Err(NoMemory);
+        };
+        Ok(LoadedFile {
+            report: complete(alloc, declarations),
             scope,
             pool,
             signature,
-        }
+        })
     }
 
     pub fn report(&self) -> &Report

@@ -4,7 +4,7 @@ ghost use Rattle.std.specs.Prelude.{◌≡◌, ◌≤◌, ◌+◌, ◌^◌, leng
 ghost use Rattle.std.specs.Str.{chars};
 ghost use Rattle.el_outside.specs.Place.{end_of as end_place, pos as pos_at, start};
 ghost use Rattle.agda_layout.specs.Blocks as layout;
-ghost use Rattle.file_load.specs.Lines.{error_at as told_at};
+ghost use Rattle.file_load.specs.Passes.{error_at as told_at};
 ghost use Rattle.file_load.specs.Load as spec;
 ghost use Rattle.file_load.specs.Load.{IsLexed, limit};
 ghost use Rattle.file_load.specs.LoadedFile.{Answers};
@@ -142,7 +142,10 @@ fn load_file(alloc: Global, file: &File, limits: Limits) -> Loaded
                 signature,
                 alloc,
             } = core;
-            Loaded::Done(LoadedFile::new(alloc, scope, pool, signature))
+            match LoadedFile::new(alloc, scope, pool, signature) {
+                Ok(loaded) => Loaded::Done(loaded),
+                Err(NoMemory) => Loaded::NoMemory,
+            }
         }
         Err(Stop::Error(error)) => Loaded::Error(error),
         Err(Stop::NoMemory) => Loaded::NoMemory,

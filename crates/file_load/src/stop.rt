@@ -4,8 +4,9 @@ ghost use Rattle.std.specs.Prelude.{◌≡◌};
 ghost use Rattle.file_load.specs.Stops as spec;
 
 use crate::errors::error_at;
-use core_kernel::KernelError;
+use core_kernel::{FamilyError, KernelError};
 use core_terms::NoMemory;
+use data_elab::{DataError, DataKind};
 use el_outside::Pos;
 use elab_machine::{ElabKind, WrittenError};
 use session_text::{KernelKind, LoadError, LoadKind};
@@ -71,4 +72,41 @@ pub fn not_checked(alloc: Global, pos: Pos, error: KernelError) -> Stop
         KernelError::NoMemory => return Stop::NoMemory,
     };
     Stop::Error(error_at(alloc, pos, kind))
+}
+
+fn family_kind(kind: &DataKind) -> LoadKind
+    ensures { result ≡ spec.kind_of_family kind.now }
+{
+    match kind {
+        DataKind::BadSort => LoadKind::BadSort,
+        DataKind::ConShape => LoadKind::ConShape,
+        DataKind::TooBig => LoadKind::TooBig,
+        DataKind::Elab(kind) => elab_kind(kind),
+    }
+}
+
+/// A data or record declaration is refused where the written rules say.
+pub fn family_not_elaborated(alloc: Global, error: DataError) -> Stop
+    ensures { result ≡ spec.family_not_elaborated error }
+{
+    match error {
+        DataError::Bad { pos, kind } => Stop::Error(error_at(alloc, pos, family_kind(&kind))),
+        DataError::NoMemory => Stop::NoMemory,
+    }
+}
+
+/// The kernel refuses the family whose name stands at `pos`.
+pub fn family_not_checked(alloc: Global, pos: Pos, error: FamilyError) -> Stop
+    ensures { result ≡ spec.family_not_checked pos error }
+{
+    match error {
+        FamilyError::Kernel(error) => not_checked(alloc, pos, error),
+        FamilyError::ConShape => {
+            Stop::Error(error_at(alloc, pos, LoadKind::Kernel(KernelKind::ConShape)))
+        }
+        FamilyError::TooBig => {
+            Stop::Error(error_at(alloc, pos, LoadKind::Kernel(KernelKind::TooBig)))
+        }
+        FamilyError::NoMemory => Stop::NoMemory,
+    }
 }

@@ -6,7 +6,7 @@ ghost use Rattle.source_tree.specs.declared.expr.Expr.{out-Expr};
 ghost use Rattle.source_tree.specs.declared.expr.Arg.{out-Arg};
 ghost use Rattle.source_tree.specs.declared.expr.Binder.{out-Binder};
 
-use source_tree::{Arg, Binder, Decl, Expr, File, Signature};
+use source_tree::{Arg, Binder, Decl, Expr, FieldValue, File, RecordItem, Signature};
 
 /// The byte at which the first form of the file begins that is not built.
 pub fn first_unbuilt(file: &File) -> Option<u32>
@@ -31,11 +31,53 @@ fn in_decl(decl: &Decl) -> Option<u32>
 {
     match decl {
         Decl::Postulate(_, signatures) => in_signatures(signatures.as_slice()),
-        Decl::Function(place, _, _)
-        | Decl::Open(place, _, _)
-        | Decl::Data(place, _, _, _, _)
-        | Decl::Record(place, _, _, _, _) => Some(place.span.start),
+        Decl::Function(place, _, _) => Some(place.span.start),
         Decl::Clause(clause) => Some(clause.place.span.start),
+        Decl::Open(_, _, _) => None,
+        Decl::Data(_, _, binders, ty, signatures) => {
+            match in_heading(binders.as_slice(), ty) {
+                Some(at) => Some(at),
+                None => in_signatures(signatures.as_slice()),
+            }
+        }
+        Decl::Record(_, _, binders, ty, items) => {
+            match in_heading(binders.as_slice(), ty) {
+                Some(at) => Some(at),
+                None => in_items(items.as_slice()),
+            }
+        }
+    }
+}
+
+/// In the parameters and the type after the colon.
+fn in_heading(binders: &[Binder], ty: &Expr) -> Option<u32>
+    ensures { result ≡ spec.in_heading binders.now ty.now }
+{
+    match in_binders(binders) {
+        Some(at) => Some(at),
+        None => in_expr(ty),
+    }
+}
+
+fn in_items(items: &[RecordItem]) -> Option<u32>
+    ensures { result ≡ spec.first_of (map spec.in_item items.now) }
+{
+    for item in items {
+        if let Some(at) = in_item(item) {
+            return Some(at);
+        }
+    }
+    None
+}
+
+fn in_item(item: &RecordItem) -> Option<u32>
+    ensures { result ≡ spec.in_item item.now }
+{
+    match item {
+        RecordItem::Field(_, signatures) => in_signatures(signatures.as_slice()),
+        RecordItem::Inductive(_) | RecordItem::Coinductive(_) | RecordItem::Constructor(_, _) => {
+            None
+        }
     }
 }
 
@@ -51,7 +93,7 @@ fn in_signatures(signatures: &[Signature]) -> Option<u32>
 }
 
 #[cycle(unbuilt)]
-#[tactic(auto, unfolding(crate::specs::Unbuilt::in_expr, crate::specs::Unbuilt::in_arg, crate::specs::Unbuilt::in_binder))]
+#[tactic(auto, unfolding(crate::specs::Unbuilt::in_expr, crate::specs::Unbuilt::in_arg, crate::specs::Unbuilt::in_binder, crate::specs::Unbuilt::in_value))]
 fn in_expr(found: &Expr) -> Option<u32>
     ensures { result ≡ spec.in_expr found.now }
 {
@@ -77,31 +119,27 @@ fn in_expr(found: &Expr) -> Option<u32>
                 None => behind,
             }
         }
-        Expr::Name(_) | Expr::SetLevel(_, _) => None,
-        Expr::Hole(place) | Expr::Underscore(place) | Expr::Record(place, _) => Some(
-            place.span.start,
-        ),
-        Expr::Qualified(name) => Some(name.place.span.start),
+        Expr::Record(_, values) => in_values(values.as_slice()),
+        Expr::Name(_) | Expr::Qualified(_) | Expr::SetLevel(_, _) => None,
+        Expr::Hole(place) | Expr::Underscore(place) => Some(place.span.start),
     }
 }
 
 #[cycle(unbuilt)]
-#[tactic(auto, unfolding(crate::specs::Unbuilt::in_expr, crate::specs::Unbuilt::in_arg, crate::specs::Unbuilt::in_binder))]
+#[tactic(auto, unfolding(crate::specs::Unbuilt::in_expr, crate::specs::Unbuilt::in_arg, crate::specs::Unbuilt::in_binder, crate::specs::Unbuilt::in_value))]
 fn in_arg(found: &Arg) -> Option<u32>
     ensures { result ≡ spec.in_arg found.now }
 {
     match found {
         Arg::Plain(value) => in_expr(value),
-        Arg::Implicit(place, _)
-        | Arg::Named(place, _, _)
-        | Arg::Project(place, _)
-        | Arg::ProjectQualified(place, _) => Some(place.span.start),
+        Arg::Implicit(place, _) | Arg::Named(place, _, _) => Some(place.span.start),
+        Arg::Project(_, _) | Arg::ProjectQualified(_, _) => None,
     }
 }
 
 /// In a binder of a function type or of `∀`.
 #[cycle(unbuilt)]
-#[tactic(auto, unfolding(crate::specs::Unbuilt::in_expr, crate::specs::Unbuilt::in_arg, crate::specs::Unbuilt::in_binder))]
+#[tactic(auto, unfolding(crate::specs::Unbuilt::in_expr, crate::specs::Unbuilt::in_arg, crate::specs::Unbuilt::in_binder, crate::specs::Unbuilt::in_value))]
 fn in_binder(binder: &Binder) -> Option<u32>
     ensures { result ≡ spec.of_function_type (spec.in_binder binder.now) }
 {
@@ -116,7 +154,7 @@ fn in_binder(binder: &Binder) -> Option<u32>
 
 /// In a binder of `λ`, which may have no type.
 #[cycle(unbuilt)]
-#[tactic(auto, unfolding(crate::specs::Unbuilt::in_expr, crate::specs::Unbuilt::in_arg, crate::specs::Unbuilt::in_binder))]
+#[tactic(auto, unfolding(crate::specs::Unbuilt::in_expr, crate::specs::Unbuilt::in_arg, crate::specs::Unbuilt::in_binder, crate::specs::Unbuilt::in_value))]
 fn in_lambda_binder(binder: &Binder) -> Option<u32>
     ensures { result ≡ spec.of_lambda (spec.in_binder binder.now) }
 {
@@ -133,6 +171,27 @@ fn in_args(args: &[Arg]) -> Option<u32>
 {
     for arg in args {
         if let Some(at) = in_arg(arg) {
+            return Some(at);
+        }
+    }
+    None
+}
+
+/// In the value of a field of `record { .. }`.
+#[cycle(unbuilt)]
+#[tactic(auto, unfolding(crate::specs::Unbuilt::in_expr, crate::specs::Unbuilt::in_value))]
+fn in_value(found: &FieldValue) -> Option<u32>
+    ensures { result ≡ spec.in_value found.now }
+{
+    in_expr(&found.value)
+}
+
+#[cycle(unbuilt)]
+fn in_values(values: &[FieldValue]) -> Option<u32>
+    ensures { result ≡ spec.first_of (map spec.in_value values.now) }
+{
+    for value in values {
+        if let Some(at) = in_value(value) {
             return Some(at);
         }
     }

@@ -1,7 +1,7 @@
 use Rattle.std.proofs.Common.{◌≡◌, take, sym, subst, rules, arith}
 use Rattle.std.proofs.lemmas.Grind.{common_steps}
 use Rattle.std.specs.Str.{IsValidUpTo}
-use Rattle.file_load.specs.Lines.{error_at as told_at}
+use Rattle.file_load.specs.Passes.{error_at as told_at}
 use Rattle.file_load.specs.Load.{IsInError, Reads}
 use Rattle.file_load.specs.Stages.{IsError}
 use Rattle.session_text.specs.declared.error.LoadKind.TheVariants as kind

@@ -18,3 +18,8 @@ pub in_lambda-returns-in-Some : goal.in_lambda-returns-in-Some
 in_lambda-returns-in-Some t c =
     let e = c.loop-binder.invariant ∙ first_by_next spec.in_binder spec.of_lambda c.args.binders.now c.loop-binder.binder-index c.binder-item.result c.loop-binder-test.true c.binder-item.is in
     first_of (search rules, grind (arith, common_steps))
+
+pub in_values-returns-in-Some : goal.in_values-returns-in-Some
+in_values-returns-in-Some t c =
+    let e = c.loop-value.invariant ∙ first_next spec.in_value c.args.values.now c.loop-value.value-index c.value-item.result c.loop-value-test.true c.value-item.is in
+    first_of (search rules, grind (arith, common_steps))

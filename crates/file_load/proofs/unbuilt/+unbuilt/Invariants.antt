@@ -11,3 +11,6 @@ invariant-in_binders-loop-binder l = first_by spec.of_function_type (map spec.in
 
 abbrev pub invariant-in_lambda-loop-binder : goal.invariant-in_lambda-loop-binder
 invariant-in_lambda-loop-binder l = first_by spec.of_lambda (map spec.in_binder l.binders) ≡ first_by spec.of_lambda (map spec.in_binder (drop l.binder-index l.binders))
+
+abbrev pub invariant-in_values-loop-value : goal.invariant-in_values-loop-value
+invariant-in_values-loop-value l = first_of (map spec.in_value l.values) ≡ first_of (map spec.in_value (drop l.value-index l.values))

@@ -1,7 +1,7 @@
 use Rattle.std.proofs.Common.{◌≡◌, drop}
 use Rattle.file_load.specs.Lines.{Judgement, LinesOf}
 use Rattle.file_load.specs.Judged.{Agrees, declared}
-use Rattle.file_load.proofs.judge.declare_lines.Given as goal
+use Rattle.file_load.proofs.lines.declare_lines.Given as goal
 
 abbrev pub invariant-loop-line : goal.invariant-loop-line
 invariant-loop-line l = record {
