@@ -1,3 +1,3 @@
 postulate
   x : C
-) data
+) _

@@ -1,1 +1,1 @@
-﻿data D : Set where
+﻿f = Set

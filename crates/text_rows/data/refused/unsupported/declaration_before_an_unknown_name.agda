@@ -1,3 +1,4 @@
 postulate
   x : C
-data D : Set where
+f : Set
+f = Set

@@ -1,0 +1,4 @@
+data Nat : Set where
+  zero : Nat
+postulate
+  x : zero

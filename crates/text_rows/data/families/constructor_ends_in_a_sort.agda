@@ -1,0 +1,2 @@
+data D : Set where
+  mk : Set

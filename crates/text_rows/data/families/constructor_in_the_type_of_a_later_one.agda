@@ -1,0 +1,3 @@
+data D : Set1 where
+  mk : D
+  other : (Q : D → Set) → Q mk → D

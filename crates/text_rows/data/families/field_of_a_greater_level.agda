@@ -1,0 +1,3 @@
+record R : Set where
+  field
+    A : Set

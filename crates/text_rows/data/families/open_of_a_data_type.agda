@@ -1,0 +1,3 @@
+data Nat : Set where
+  zero : Nat
+open Nat

@@ -1,0 +1,2 @@
+data D (A B : Set) : Set where
+  mk : D B A

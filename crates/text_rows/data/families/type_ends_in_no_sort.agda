@@ -1,0 +1,3 @@
+data Nat : Set where
+  zero : Nat
+data D : Nat → Nat where

@@ -1,0 +1,4 @@
+record R : Set where
+  field
+    A : Set
+    x : ?

@@ -1,0 +1,1 @@
+data D {A : Set} : Set where

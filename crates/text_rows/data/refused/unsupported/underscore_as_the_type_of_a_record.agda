@@ -1,0 +1,1 @@
+record R : _ where
