@@ -1,0 +1,9 @@
+use Rattle.std.specs.Prelude.{length}
+use Rattle.tree_kernel.proofs.Sames.{EntriesLeft}
+use Rattle.tree_kernel.proofs.same.same_entries.Given as goal
+
+abbrev pub invariant-loop-left : goal.invariant-loop-left
+invariant-loop-left l = EntriesLeft l.pool l.entries l.others l.left l.right
+
+abbrev pub decreases-loop-left : goal.decreases-loop-left
+decreases-loop-left l = length l.left
