@@ -4,9 +4,9 @@
 usage: bench/families.py PROGRAM [RUNS]
 
 PROGRAM is the built `elab_cli`. A file has so many data types of five constructors, and five postulates for every two of them; another has as many
-records of two fields. Of each size a line has the best time of RUNS runs (3 where it is not
-given), the peak memory and the first line of the answer. The status is 1 if an answer is another one, if 2,000 data types take SECONDS or MEGABYTES, or
-if twice as many take more than RATIO times as long."""
+records of two fields. Of each size a line has the best time of RUNS runs (3 where it is not given), the peak memory and the first line of
+the answer. The status is 1 if an answer is another one, if 2,000 data types take SECONDS or MEGABYTES, or if twice as many take more than
+RATIO times as long."""
 import sys
 
 from measure import arguments, check
