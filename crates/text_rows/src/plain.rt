@@ -96,12 +96,8 @@ fn push_error(
 }
 
 /// Kinds of errors that no text has so far.
-const KINDS: [LoadKind; 18] = [
+const KINDS: [LoadKind; 11] = [
     LoadKind::NotAConstructor,
-    LoadKind::BadSort,
-    LoadKind::ConShape,
-    LoadKind::TooBig,
-    LoadKind::TooLarge,
     LoadKind::CannotSplit,
     LoadKind::NotAbsurd,
     LoadKind::WrongArity,
@@ -109,12 +105,9 @@ const KINDS: [LoadKind; 18] = [
     LoadKind::Impossible,
     LoadKind::Mixed,
     LoadKind::NoSuchName,
-    LoadKind::CannotInfer,
-    LoadKind::BadField,
     LoadKind::Steps,
     LoadKind::OutOfFuel,
     LoadKind::OutOfDepth,
-    LoadKind::Misplaced,
 ];
 
 const KERNEL_KINDS: [KernelKind; 6] = [
