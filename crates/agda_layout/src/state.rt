@@ -1,4 +1,4 @@
-ghost use Rattle.std.specs.Prelude.{◌≡◌, ◌++◌, ◌∷◌, [], length, reverse, map, OnOk, IfOk, true};
+ghost use Rattle.std.specs.Prelude.{◌≡◌, [], reverse, OnOk, IfOk, true};
 ghost use Rattle.agda_layout.specs.Blocks as spec;
 ghost use Rattle.agda_layout.specs.Blocks.{Gives};
 ghost use Rattle.agda_layout.specs.Views.{state_of};

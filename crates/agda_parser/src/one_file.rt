@@ -1,4 +1,4 @@
-ghost use Rattle.std.specs.Prelude.{◌≡◌, ◌+◌, ◌≤◌, ◌^◌, length};
+ghost use Rattle.std.specs.Prelude.{◌+◌, ◌≤◌, ◌^◌, length};
 ghost use Rattle.agda_parser.specs.DeclarationSyntax as spec;
 ghost use Rattle.expr_parser.specs.Cursor.{Reads, Answers, Checks};
 ghost use Rattle.agda_grammar.specs.Declarations.{file_then, file_tree};

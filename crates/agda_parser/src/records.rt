@@ -1,4 +1,4 @@
-ghost use Rattle.std.specs.Prelude.{◌≡◌, [], ◌∷◌};
+ghost use Rattle.std.specs.Prelude.{◌≡◌};
 ghost use Rattle.agda_parser.specs.DeclarationSyntax as spec;
 ghost use Rattle.agda_grammar.specs.Declarations as trees;
 ghost use Rattle.expr_parser.specs.Cursor.{Reads, is};

@@ -4,7 +4,7 @@ use Rattle.core_rules.specs.Term.{Term}
 use Rattle.core_rules.specs.Signature.{Signature}
 use Rattle.core_rules.specs.Elimination.{Elim}
 use Rattle.core_rules.specs.Bounded as B
-use Rattle.core_rules.specs.Bounded.{Decision, Parts, Pair, applied, by_kind, by_lambda, kind, lambda, parts_or, same_flag}
+use Rattle.core_rules.specs.Bounded.{Decision, Parts, Pair, applied, by_kind, by_lambda, kind, lambda, same_flag}
 
 module _ (g : Signature Term) (q : Decision) (h : Term) (es : List Elim) (k : Term) (ds : List Elim) where
   abbrev whole : Decision

@@ -10,7 +10,7 @@ use Rattle.core_rules.specs.Term.{Term}
 use Rattle.core_rules.specs.Signature.{Signature}
 use Rattle.core_rules.specs.Heads.{Solutions, Bounded, HeadOf}
 use Rattle.core_rules.specs.Bounded as B
-use Rattle.core_rules.specs.Bounded.{Pair, below, InOrder, Decided, decide, AreSame, ByHeads, ConvOf}
+use Rattle.core_rules.specs.Bounded.{Pair, below, InOrder, Decided, decide, AreSame, ConvOf}
 use Rattle.core_rules.proofs.Heads.OneVerdict.{conv_of_deeper}
 use Rattle.term_pool.specs.Pool.{Pool, tree, Extends}
 use Rattle.term_pool.specs.Growth.{Extends-length, Extends-tree}

@@ -4,7 +4,7 @@ ghost use Rattle.core_rules.specs.Signature.{fields_of};
 ghost use Rattle.core_rules.specs.Elimination.{elims, projections};
 ghost use Rattle.core_rules.specs.Bounded.{Decision, Pair, Parts, applied, parts_or, same_flag, term_parts, with_part};
 ghost use Rattle.term_pool.specs.Pool.{Extends, Pool, StandsFor, tree};
-ghost use Rattle.core_terms.specs.Signature.{Stands, signature_in};
+ghost use Rattle.core_terms.specs.Signature.{signature_in};
 ghost use Rattle.weak_head.specs.Elims.{AllBelow, AreArgs, args_of, spine_in};
 ghost use Rattle.weak_head.specs.States.{AppliedBelow};
 ghost use Rattle.conversion.specs.Arguments.{AreLike};

@@ -4,7 +4,7 @@ ghost use Rattle.std.specs.Prelude.{◌≡◌, ◌<◌, length, IfOk};
 ghost use Rattle.std.specs.List.{AllByRecursion};
 ghost use Rattle.core_rules.specs.Mapped.{AllFamily, con_map, fam_map};
 ghost use Rattle.core_rules.specs.Signature.{Family, fams, without_cons as known_first};
-ghost use Rattle.core_rules.specs.InScope.{ConInScope, FamilyInScope, TelescopeInScope, any_meta};
+ghost use Rattle.core_rules.specs.InScope.{ConInScope, FamilyInScope, any_meta};
 ghost use Rattle.core_rules.specs.Derivable.{Derivable, GoodFamily};
 ghost use Rattle.term_pool.specs.Pool.{Extends, tree};
 ghost use Rattle.core_terms.specs.Signature.{Stands, signature_in, decl_of, fam_of};

@@ -2,7 +2,7 @@
 
 ghost use Rattle.std.specs.Prelude.{◌≡◌, ◌<◌, ◌≤◌, ◌-◌, length, map, take, drop, IfOk, OnOk};
 ghost use Rattle.std.specs.List.{AllByRecursion};
-ghost use Rattle.term_pool.specs.Pool.{StandsFor, tree};
+ghost use Rattle.term_pool.specs.Pool.{StandsFor};
 ghost use Rattle.core_rules.specs.Term.{Term};
 ghost use Rattle.kernel_rules.specs.Outcome.{Gives};
 ghost use Rattle.core_kernel.specs.Answers.{AnswersTerm};

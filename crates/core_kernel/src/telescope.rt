@@ -1,6 +1,6 @@
 //! The types of telescopes and of constructors.
 
-ghost use Rattle.std.specs.Prelude.{◌≡◌, ◌<◌, [], ◌++◌, ◌+◌, length, map, OnOk};
+ghost use Rattle.std.specs.Prelude.{◌≡◌, ◌<◌, [], length, map, OnOk};
 ghost use Rattle.std.specs.List.{AllByRecursion};
 ghost use Rattle.core_rules.specs.Mapped.{AllCon, AllEntries, AllFamily, con_map, fam_map, telescope_map};
 ghost use Rattle.core_rules.specs.Signature.{Family, fams};

@@ -1,5 +1,4 @@
-ghost use Rattle.std.specs.Prelude.{◌≡◌, [], length, map, reverse, take, IfOk, OnOk};
-ghost use Rattle.core_print.specs.Labels.{label_text};
+ghost use Rattle.std.specs.Prelude.{◌≡◌, [], length, reverse, IfOk};
 ghost use Rattle.core_print.specs.Names.{context_names};
 ghost use Rattle.core_print.specs.Pages.{names_in};
 ghost use Rattle.core_print.specs.Views.{world_of};

@@ -1,6 +1,6 @@
 ghost use Rattle.std.specs.Prelude.{◌≡◌, ℕ, List, ◌++◌, map, IfOk, OnOk};
 ghost use Rattle.core_print.specs.Labels.{label_text};
-ghost use Rattle.core_print.specs.Names.{con_names, families_names, family_names, global_names, globals, name_text};
+ghost use Rattle.core_print.specs.Names.{con_names, families_names, family_names, globals, name_text};
 ghost use Rattle.core_print.specs.Views.{world_of};
 ghost use Rattle.core_rules.specs.Signature.{Family as FamilyDecl, defs, fams, decl_name};
 ghost use Rattle.core_terms.specs.Signature.{decl_of, fam_of};

@@ -1,4 +1,4 @@
-ghost use Rattle.std.specs.Prelude.{◌≡◌, ◌<◌, ◌++◌, length, map, IfOk, string_bytes, codes};
+ghost use Rattle.std.specs.Prelude.{◌≡◌, ◌<◌, ◌++◌, length, IfOk, string_bytes, codes};
 ghost use Rattle.core_rules.specs.Mapped.{AllLeft, AllPat, AllPats, left_map, pat_map, pats_map, shape_map};
 ghost use Rattle.term_pool.specs.Pool.{tree};
 ghost use Rattle.core_terms.specs.Pattern.{braces_of, origin_of};

@@ -1,5 +1,5 @@
 ghost use Rattle.std.specs.Prelude.{◌≡◌, ℕ, ◌<◌, List, [], ◌∷◌, ◌++◌, length, get_or, reverse, IfOk, OnOk, string_bytes, codes};
-ghost use Rattle.core_rules.specs.Term.{Term, Pi, Lam, App, Proj};
+ghost use Rattle.core_rules.specs.Term.{Pi, Lam, App, Proj};
 ghost use Rattle.term_pool.specs.Pool.{Pool, Below, node_tree, tree};
 ghost use Rattle.core_print.specs.Labels.{label_text};
 ghost use Rattle.core_print.specs.Names.{World, unknown};

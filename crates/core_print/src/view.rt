@@ -1,4 +1,4 @@
-ghost use Rattle.std.specs.Prelude.{◌≡◌, List, slice_get, map, Some, None, MatchOption};
+ghost use Rattle.std.specs.Prelude.{◌≡◌, slice_get, Some, None, MatchOption};
 ghost use Rattle.core_rules.specs.Signature.{decl_name};
 ghost use Rattle.core_terms.specs.Signature.{decl_of, fam_of};
 ghost use Rattle.core_print.specs.Names.{con_text, def_text, fam_text, field_text, hole_from, name_text};

@@ -1,4 +1,4 @@
-ghost use Rattle.std.specs.Prelude.{◌≡◌, ℕ, ◌+◌, ◌<◌, ◌≤◌, [], ◌∷◌, ◌||◌, length, nat_lt, IfOk, OnOk};
+ghost use Rattle.std.specs.Prelude.{◌≡◌, ◌+◌, ◌<◌, ◌≤◌, ◌||◌, length, nat_lt, IfOk, OnOk};
 ghost use Rattle.core_rules.specs.Term.{size, size_all, occurs as occurs_lem, occurs_in};
 ghost use Rattle.term_pool.specs.Pool.{IsArgs, Pool, args as items_of, tree};
 ghost use Rattle.core_print.specs.Printed.{most_nodes};

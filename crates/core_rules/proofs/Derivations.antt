@@ -13,7 +13,7 @@ use Rattle.core_rules.specs.Typing as T
 use Rattle.core_rules.specs.Typing.{Typing, IsField, entry}
 use Rattle.core_rules.specs.InScope.{IsDataShape, HasShape}
 use Rattle.core_rules.specs.Derivable as D
-use Rattle.core_rules.specs.Derivable.{Derivable, Good, GoodFamily, GoodCon, IsWithin}
+use Rattle.core_rules.specs.Derivable.{Derivable, Good, GoodCon, IsWithin}
 use Rattle.core_rules.specs.Examples.{postulates, nat, vec, pair, zero_con, suc_con, pair_con, pair_fields, pair_of, pair_type, families, doubled}
 use Rattle.core_rules.specs.Substitution.{shift}
 use Rattle.core_rules.specs.Run.{ConApp}

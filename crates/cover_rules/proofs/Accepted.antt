@@ -15,7 +15,7 @@ use Rattle.core_rules.proofs.Trees.Scoped.{length-con_context}
 use Rattle.cover_rules.specs.LeftSide.{Node, taken, opened}
 use Rattle.core_rules.specs.UnifierAnswers.{Unified, Unifier, IsUnifier}
 use Rattle.cover_rules.specs.CoverOf as V
-use Rattle.cover_rules.specs.CoverOf.{CoverError, Result, Done, Failed, result_map, Asked, AnArgument, AProjection, ASplit, ARecordSplit, ARight, asked, Plan, Judges, CoverOf, Built, Fields, Branches, Branched, NoneLeft, splitting_at}
+use Rattle.cover_rules.specs.CoverOf.{Result, Done, Failed, result_map, Asked, asked, Plan, CoverOf, Built, Fields, Branches, Branched, splitting_at}
 use Rattle.cover_rules.proofs.Plans.{For, plan_for}
 use Rattle.cover_rules.proofs.Agrees.{DueFor, is_due}
 

@@ -8,13 +8,13 @@ use Rattle.core_rules.specs.Bounded.{RecordValue}
 use Rattle.core_rules.specs.BoundedLaws.{no_solutions}
 use Rattle.match_rules.specs.Matching.{Shape, Any, OfCon, OfRecord, Nothing, OfField, Shapes, NoShape, AndShape, Clause, Bound, HasHead, eta_family}
 use Rattle.match_rules.specs.Covering as C
-use Rattle.match_rules.specs.Covering.{Verdict, IsItself, IsArg, Due, IsDue}
+use Rattle.match_rules.specs.Covering.{Verdict, IsItself, IsDue}
 use Rattle.cover_rules.specs.Flagged.{flagged_value}
 use Rattle.cover_rules.specs.Looking as L
 use Rattle.cover_rules.specs.Looking.{Why, Look, Yes, Halts, Clash, whole, after, Face, Variable, Neutral, Constructor, Another, Faces, ConHead, IsCon, RecordFace, Unknown, Itself, Through, itself_at, record_face, Looks, LooksCon, LooksRecord, LooksAll}
 use Rattle.core_rules.specs.UnifierAnswers.{Unifier}
 use Rattle.cover_rules.specs.CoverOf as V
-use Rattle.cover_rules.specs.CoverOf.{Asked, ARight, AnArgument, AProjection, ASplit, ARecordSplit, AnAbsurd, NoClause, NotOneKind, NoVariable, NoFuelLeft, by_kind, kind_of, all_next, asked, asked_of, look_first, Judges}
+use Rattle.cover_rules.specs.CoverOf.{Asked, ARight, AnArgument, AProjection, ASplit, ARecordSplit, AnAbsurd, NoClause, NotOneKind, NoVariable, NoFuelLeft, by_kind, kind_of, all_next, asked, asked_of, Judges}
 use Rattle.cover_rules.proofs.Flagged.{IsValue, flagged_value_is}
 use Rattle.cover_rules.proofs.Faces.{is_that, variable_is, not_unknown}
 use Rattle.cover_rules.proofs.Rank.{con_is}

@@ -6,7 +6,7 @@ use Rattle.core_rules.specs.Term.{Var, Con, Fam, Pi, End, And}
 use Rattle.core_rules.specs.Addition.{nat_type, suc_term}
 use Rattle.core_rules.specs.VectorHead.{vector, first_type}
 use Rattle.core_rules.specs.Heads as H
-use Rattle.core_rules.specs.Heads.{Form, Within, HeadOf}
+use Rattle.core_rules.specs.Heads.{Form, Within}
 use Rattle.core_rules.specs.Elimination.{Arg}
 use Rattle.cover_rules.specs.Looking as L
 use Rattle.cover_rules.specs.CoverOf as V

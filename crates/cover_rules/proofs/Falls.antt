@@ -18,12 +18,12 @@ use Rattle.match_rules.proofs.Cover.Comes as K
 use Rattle.match_rules.proofs.Cover.Comes.{to_head, comes_out}
 use Rattle.cover_rules.specs.LeftSide.{Node, opened}
 use Rattle.cover_rules.specs.Looking as L
-use Rattle.cover_rules.specs.Looking.{Why, Clash, At, RecordAt, Look, Yes, Halts, after, Faces, Constructor, LooksAll}
+use Rattle.cover_rules.specs.Looking.{Clash, At, RecordAt, Look, Yes, Halts, after, Faces, Constructor, LooksAll}
 use Rattle.core_rules.specs.UnifierAnswers.{Unifier}
 use Rattle.cover_rules.specs.CoverOf as V
-use Rattle.cover_rules.specs.CoverOf.{Asked, AnArgument, AProjection, ASplit, ARecordSplit, AnAbsurd, NoClause, NotOneKind, NoFuelLeft, asked, asked_of, look_first, by_kind, kind_of, all_next, Kind, Plan, Fails, Takes, Shows, Splits, Opens, Rejects, Ends, FamHead, OnlyFuel, IsFam, NoFam, fam_head, argument_plan, projection_plan, split_plan, record_plan, plan_or, Judges, Planned, splitting_at}
+use Rattle.cover_rules.specs.CoverOf.{Asked, AnArgument, AProjection, ASplit, ARecordSplit, AnAbsurd, NoClause, NotOneKind, NoFuelLeft, asked, asked_of, look_first, by_kind, kind_of, all_next, Kind, Plan, Judges, splitting_at}
 use Rattle.cover_rules.specs.Ending as E
-use Rattle.cover_rules.specs.Ending.{size, sizes, Rank, Ranks, RankOf, Below, Child, Terminates, terminates}
+use Rattle.cover_rules.specs.Ending.{size, sizes, Ranks, RankOf, Below, Child, Terminates, terminates}
 use Rattle.cover_rules.proofs.Faces.{faces_out, stays}
 use Rattle.cover_rules.proofs.Plans.{For, plan_for}
 use Rattle.cover_rules.proofs.Rank.{Lower, ranks_more, rank_full, ranks_full, head-over, ranks-over, Shown, all_falls}

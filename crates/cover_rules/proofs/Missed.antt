@@ -12,7 +12,7 @@ use Rattle.cover_rules.specs.Looking as L
 use Rattle.cover_rules.specs.Looking.{Look, Yes, Halts, Clash}
 use Rattle.core_rules.specs.UnifierAnswers.{Unified, UnifiedBy, Unifier}
 use Rattle.cover_rules.specs.CoverOf as V
-use Rattle.cover_rules.specs.CoverOf.{CoverError, Missing, Result, Done, Failed, result_map, Asked, NoClause, NoFuelLeft, NotOneKind, Kind, by_kind, kind_of, all_next, asked, asked_of, look_first, Plan, Fails, Ends, Takes, Shows, Splits, Opens, Rejects, Judges, CoverOf, Built, Fields, Branches, Branched, NoneLeft, Rejected}
+use Rattle.cover_rules.specs.CoverOf.{CoverError, Missing, Result, Done, Failed, result_map, Asked, NoClause, NoFuelLeft, NotOneKind, Kind, by_kind, kind_of, all_next, asked, asked_of, Plan, Fails, Ends, Takes, Shows, Splits, Opens, Rejects, Judges, CoverOf, Built, Fields, Branches, Branched, NoneLeft, Rejected}
 use Rattle.cover_rules.specs.Ending as E
 use Rattle.cover_rules.specs.Ending.{Below, Child, Reaches}
 use Rattle.cover_rules.specs.Laws as W

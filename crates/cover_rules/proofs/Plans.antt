@@ -14,7 +14,7 @@ use Rattle.cover_rules.specs.Flagged.{flagged}
 use Rattle.cover_rules.specs.LeftSide.{Node, left_of}
 use Rattle.core_rules.specs.UnifierAnswers.{Unifier}
 use Rattle.cover_rules.specs.CoverOf as V
-use Rattle.cover_rules.specs.CoverOf.{CoverError, Asked, ARight, AnArgument, AProjection, ASplit, ARecordSplit, AnAbsurd, NoClause, Plan, Fails, Takes, Shows, Splits, Opens, Rejects, Ends, FamHead, OnlyFuel, IsFam, NoFam, fam_head, fam_with, argument_plan, projection_plan, split_plan, record_plan, plan_or, entry_type, Planned}
+use Rattle.cover_rules.specs.CoverOf.{Asked, ARight, AnArgument, AProjection, ASplit, ARecordSplit, AnAbsurd, NoClause, Plan, Fails, Takes, Shows, Splits, Opens, Rejects, Ends, FamHead, OnlyFuel, IsFam, NoFam, fam_head, fam_with, argument_plan, projection_plan, split_plan, record_plan, plan_or, entry_type, Planned}
 
 -- the right side of a clause under what it binds
 pub record RightOf (a : Asked) (i : ℕ) (t : Term) : Type 0 where

@@ -15,7 +15,7 @@ use Rattle.core_rules.proofs.Spines.{projections-over}
 use Rattle.match_rules.proofs.Cover.Comes.{of_head, to_head, comes-over}
 use Rattle.match_rules.proofs.Cover.Standing.{one_head}
 use Rattle.cover_rules.specs.Looking as L
-use Rattle.cover_rules.specs.Looking.{Why, At, RecordAt, Look, Yes, Halts, whole, after, Face, Variable, Neutral, Constructor, Another, Faces, ConHead, IsCon, con_head, RecordFace, Unknown, Itself, Through, record_face, Looks, LooksCon, LooksRecord, LooksAll}
+use Rattle.cover_rules.specs.Looking.{At, RecordAt, Look, Yes, Halts, whole, after, Face, Variable, Neutral, Constructor, Another, Faces, ConHead, IsCon, con_head, RecordFace, Unknown, Itself, Through, record_face, Looks, LooksCon, LooksRecord, LooksAll}
 use Rattle.cover_rules.specs.Ending as E
 use Rattle.cover_rules.specs.Ending.{size, sizes, Rank, Ranks}
 use Rattle.cover_rules.proofs.One.{faces_one}

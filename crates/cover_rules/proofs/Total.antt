@@ -16,7 +16,7 @@ use Rattle.match_rules.specs.Covering as C
 use Rattle.core_rules.proofs.Signature.Places.{numbers_at, places_at, length-fields_of}
 use Rattle.cover_rules.specs.LeftSide.{Node, projected, opened, joined}
 use Rattle.cover_rules.specs.Looking as L
-use Rattle.cover_rules.specs.Looking.{Why, Look, Yes, Halts, Clash, whole, after, Face, Faces, ConHead, NoFuel, IsCon, NoCon, con_head, RecordFace, Unknown, Itself, Through, record_face, Looks, LooksCon, LooksRecord, LooksAll}
+use Rattle.cover_rules.specs.Looking.{Look, Yes, Halts, Clash, whole, after, Face, Faces, ConHead, NoFuel, IsCon, NoCon, con_head, RecordFace, Unknown, Itself, Through, record_face, Looks, LooksCon, LooksRecord, LooksAll}
 use Rattle.core_rules.specs.UnifierAnswers as N
 use Rattle.core_rules.specs.UnifierAnswers.{Unified, UnifiedBy, Unifier}
 use Rattle.cover_rules.specs.CoverOf as V
@@ -24,7 +24,7 @@ use Rattle.cover_rules.specs.CoverOf.{Result, Done, Failed, Asked, ARight, AnArg
 use Rattle.cover_rules.specs.Ready as R
 use Rattle.cover_rules.specs.Ready.{Plain, PlainAll, HasNothing, OneNothing, AllReady}
 use Rattle.cover_rules.specs.Ending as E
-use Rattle.cover_rules.specs.Ending.{Below, Child, Terminates, terminates}
+use Rattle.cover_rules.specs.Ending.{Below, Terminates, terminates}
 use Rattle.cover_rules.proofs.Rank.{same_or_not}
 use Rattle.cover_rules.proofs.Plans.{For, plan_for}
 use Rattle.cover_rules.proofs.Falls.{all_terminate}

@@ -1,7 +1,6 @@
 //! The constructors of a data type, line by line.
 
-ghost use Rattle.std.specs.Prelude.{◌≡◌, ◌<◌, ◌++◌, length, map, IfOk, OnOk, Some};
-ghost use Rattle.core_rules.specs.Signature.{fams};
+ghost use Rattle.std.specs.Prelude.{◌≡◌, ◌<◌, ◌++◌, map, IfOk, OnOk, Some};
 ghost use Rattle.written_rules.specs.Expressions.{ids};
 ghost use Rattle.data_rules.specs.Families.{line_meaning};
 ghost use Rattle.data_rules.specs.Rules.{con_line, con_lines, own_indices as indices_shown};

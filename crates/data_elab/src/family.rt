@@ -1,10 +1,10 @@
 //! The call on data and record declarations.
 
-ghost use Rattle.std.specs.Prelude.{◌≡◌, ◌<◌, ◌++◌, [], length, map, IfOk};
+ghost use Rattle.std.specs.Prelude.{◌≡◌, ◌<◌, [], length, map, IfOk};
 ghost use Rattle.core_rules.specs.Signature.{Family, fams};
 ghost use Rattle.core_rules.specs.Mapped.{AllEntries, telescope_map};
 ghost use Rattle.term_pool.specs.Pool.{Extends, tree};
-ghost use Rattle.core_terms.specs.Signature.{Stands, decl_of, fam_of, signature_in};
+ghost use Rattle.core_terms.specs.Signature.{Stands, decl_of, signature_in};
 ghost use Rattle.written_rules.specs.Asking.{Comes};
 ghost use Rattle.data_rules.specs.Families.{IsFamily, WrittenFamilyOf, con_name, has_eta, is_coinductive, line_meaning, lines_of};
 ghost use Rattle.data_rules.specs.Rules.{con_lines, field_lines, inside};

@@ -1,6 +1,5 @@
 //! The fields of a record, line by line.
 
-ghost use Rattle.std.specs.Prelude.{◌≡◌, map};
 ghost use Rattle.data_rules.specs.Families.{line_meaning, lines_of};
 ghost use Rattle.data_rules.specs.Rules.{field_line, field_lines};
 ghost use Rattle.data_elab.specs.Constructors.{lines_in};

@@ -1,6 +1,6 @@
 //! Parameters and groups of names of one type, which become entries one after the other.
 
-ghost use Rattle.std.specs.Prelude.{◌≡◌, ◌<◌, [], ◌∷◌, length, map, IfOk, OnOk};
+ghost use Rattle.std.specs.Prelude.{◌≡◌, ◌<◌, [], ◌∷◌, length, IfOk, OnOk};
 ghost use Rattle.written_rules.specs.Rules.{Typed};
 ghost use Rattle.written_rules.specs.Expressions.{ids, expr_meaning, binder_meaning};
 ghost use Rattle.elab_machine.specs.declared.error.ElabKind.TheVariants as E;

@@ -1,6 +1,6 @@
 //! What a declaration is read over: the types of its expressions, and the head forms that are tested.
 
-ghost use Rattle.std.specs.Prelude.{◌≡◌, ◌<◌, length};
+ghost use Rattle.std.specs.Prelude.{◌<◌, length};
 ghost use Rattle.written_rules.specs.Rules.{shows};
 ghost use Rattle.written_rules.specs.Expressions.{expr_meaning};
 ghost use Rattle.data_elab.specs.Reader.{IsReady, Grows, Keeps, Read, over, term_of, values_of, signature_of, AnswersTyped, AnswersShown, read_only};

@@ -1,6 +1,6 @@
 //! What a record declaration says beside its fields, and its core declaration.
 
-ghost use Rattle.std.specs.Prelude.{◌≡◌, ◌<◌, length, map, IfOk};
+ghost use Rattle.std.specs.Prelude.{◌≡◌, ◌<◌, IfOk};
 ghost use Rattle.core_rules.specs.Signature.{Family};
 ghost use Rattle.core_terms.specs.Signature.{decl_of};
 ghost use Rattle.data_rules.specs.Families.{con_name as name_given, is_coinductive as says_coinductive};

@@ -1,6 +1,6 @@
 //! Types by their head forms: the function types that a type shows, and what it ends in.
 
-ghost use Rattle.std.specs.Prelude.{◌≡◌, ◌<◌, ◌++◌, ◌+◌, ℕ, length, map, cond, option_map, IfOk, IfSome};
+ghost use Rattle.std.specs.Prelude.{◌≡◌, ◌<◌, ◌++◌, ◌+◌, length, map, cond, option_map, IfOk, IfSome};
 ghost use Rattle.std.specs.List.{AllByRecursion};
 ghost use Rattle.core_rules.specs.Mapped.{telescope_map};
 ghost use Rattle.core_rules.specs.Signature.{FamDecl};

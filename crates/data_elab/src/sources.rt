@@ -1,10 +1,8 @@
 //! Parameters and fields as what source variables stand for.
 
-ghost use Rattle.std.specs.Prelude.{◌≡◌, ◌<◌, ◌≤◌, [], length, IfOk};
-ghost use Rattle.std.specs.List.{AllByRecursion};
+ghost use Rattle.std.specs.Prelude.{◌<◌, length, IfOk};
 ghost use Rattle.core_rules.specs.Mapped.{AllEntries, telescope_map};
 ghost use Rattle.term_pool.specs.Pool.{Extends, tree};
-ghost use Rattle.elab_machine.specs.Written.{IsSource, source_values};
 ghost use Rattle.data_rules.specs.Rules.{inside};
 ghost use Rattle.data_elab.specs.Sources.{AreSources, IsRisen};
 

@@ -1,6 +1,6 @@
 //! Lambdas and function types. Their binders are entered one after the other, and put around what stands inside at the end.
 
-ghost use Rattle.std.specs.Prelude.{◌≡◌, ◌<◌, ◌∷◌, [], length, map, max, IfOk};
+ghost use Rattle.std.specs.Prelude.{◌≡◌, ◌<◌, [], length, max, IfOk};
 ghost use Rattle.core_rules.specs.Mapped.{AllEntries, telescope_map};
 ghost use Rattle.term_pool.specs.Pool.{Extends, StandsFor, tree};
 ghost use Rattle.written_rules.specs.Rules.{known, typed_lambda, untyped_lambda, grouped};

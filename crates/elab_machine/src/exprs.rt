@@ -1,6 +1,6 @@
 //! Expressions: at a wanted type, and as types.
 
-ghost use Rattle.std.specs.Prelude.{◌≡◌, ◌<◌, ◌∷◌, [], length, OnOk};
+ghost use Rattle.std.specs.Prelude.{◌<◌, ◌∷◌, [], length, OnOk};
 ghost use Rattle.core_rules.specs.declared.Flag.TheVariants as flag;
 ghost use Rattle.written_rules.specs.Rules.{lambda, grouped, function_type, type_checked, other_checked};
 ghost use Rattle.written_rules.specs.Expressions.{expr_meaning, no_name};

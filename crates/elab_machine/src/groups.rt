@@ -1,6 +1,6 @@
 //! The binders of lambdas and of function types, in order: each may have many names of one type, which is read once.
 
-ghost use Rattle.std.specs.Prelude.{◌≡◌, ◌<◌, ◌∷◌, [], length};
+ghost use Rattle.std.specs.Prelude.{◌<◌, ◌∷◌, [], length};
 ghost use Rattle.written_rules.specs.Rules.{typed_lambda, grouped, lambda, function_type};
 ghost use Rattle.written_rules.specs.Expressions.{ids, expr_meaning, binder_meaning};
 ghost use Rattle.elab_machine.specs.Binders.{AnswersLambdas, AnswersDomains, binders_in};

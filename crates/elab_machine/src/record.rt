@@ -1,7 +1,7 @@
 //! Record values: their labels are the fields of the record that the wanted type shows, and each value is checked at its field's type.
 
 ghost use Rattle.std.specs.Prelude.{◌≡◌, ◌<◌, ◌≤◌, ◌&&◌, drop, eqb, length, map, option_and_then, option_map, slice_get, IfOk, IfSome, OnOk};
-ghost use Rattle.core_rules.specs.Term.{Term, Con, from_list};
+ghost use Rattle.core_rules.specs.Term.{Term};
 ghost use Rattle.std.specs.List.{AllByRecursion, list_all};
 ghost use Rattle.core_rules.specs.Signature.{Signature as Declared, fams};
 ghost use Rattle.core_rules.specs.Mapped.{AllEntries, telescope_map};

@@ -1,6 +1,6 @@
 //! What expressions are read over, and what the head form of a type shows.
 
-ghost use Rattle.std.specs.Prelude.{◌≡◌, ◌<◌, ℕ, [], length, IfOk};
+ghost use Rattle.std.specs.Prelude.{◌≡◌, ◌<◌, ℕ, [], length};
 ghost use Rattle.core_rules.specs.Term.{Term, Pi};
 ghost use Rattle.core_rules.specs.Heads.{Form};
 ghost use Rattle.written_rules.specs.Rules.{shows, wanted, function_wanted, sort_shown, agrees};

@@ -1,4 +1,4 @@
-ghost use Rattle.std.specs.Prelude.{◌≡◌, ◌+◌, ◌≤◌, ◌^◌, length};
+ghost use Rattle.std.specs.Prelude.{◌+◌, ◌≤◌, ◌^◌, length};
 ghost use Rattle.expr_parser.specs.Syntax as spec;
 ghost use Rattle.expr_parser.specs.Cursor.{Reads, Answers, Checks};
 ghost use Rattle.agda_grammar.specs.Grammar.{then, tree};

@@ -1,4 +1,4 @@
-ghost use Rattle.std.specs.Prelude.{◌≡◌, [], IfOk};
+ghost use Rattle.std.specs.Prelude.{◌≡◌, IfOk};
 ghost use Rattle.expr_parser.specs.PatternSyntax as spec;
 ghost use Rattle.agda_grammar.specs.Patterns as trees;
 ghost use Rattle.expr_parser.specs.Cursor.{Reads};

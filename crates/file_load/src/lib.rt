@@ -1,4 +1,4 @@
-//! The load of a text: its stages in order, the walk over its declarations, and its first error. The type of a declaration is elaborated
+//! The load of a text: its stages in order, the walk over its declarations, and its first error. A type and a family are each elaborated
 //! by the written rules, measured, and checked by the kernel.
 #![tactic(auto)]
 

@@ -1,6 +1,6 @@
 //! Blocks of postulates, line by line.
 
-ghost use Rattle.std.specs.Prelude.{◌≡◌, ◌<◌, ◌++◌, [], ◌∷◌, length, OnOk};
+ghost use Rattle.std.specs.Prelude.{◌≡◌, ◌<◌, ◌++◌, [], length, OnOk};
 ghost use Rattle.core_rules.specs.InScope.{InScope, any_meta};
 ghost use Rattle.core_rules.specs.Derivable.{Derivable};
 ghost use Rattle.term_pool.specs.Pool.{Extends, tree};

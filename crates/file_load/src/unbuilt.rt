@@ -2,9 +2,6 @@
 
 ghost use Rattle.std.specs.Prelude.{◌≡◌, map};
 ghost use Rattle.file_load.specs.Unbuilt as spec;
-ghost use Rattle.source_tree.specs.declared.expr.Expr.{out-Expr};
-ghost use Rattle.source_tree.specs.declared.expr.Arg.{out-Arg};
-ghost use Rattle.source_tree.specs.declared.expr.Binder.{out-Binder};
 
 use source_tree::{Arg, Binder, Decl, Expr, FieldValue, File, RecordItem, Signature};
 

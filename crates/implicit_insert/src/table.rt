@@ -1,4 +1,4 @@
-ghost use Rattle.std.specs.Prelude.{◌≡◌, ◌<◌, length, IfOk};
+ghost use Rattle.std.specs.Prelude.{◌<◌, length, IfOk};
 ghost use Rattle.core_rules.specs.InScope.{IsAcyclic};
 ghost use Rattle.core_rules.specs.Elimination.{elims};
 ghost use Rattle.core_rules.specs.Heads.{Form};

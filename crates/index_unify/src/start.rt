@@ -1,4 +1,4 @@
-ghost use Rattle.std.specs.Prelude.{◌≡◌, ℕ, ◌<◌, length, map, reverse, Option, IfOk};
+ghost use Rattle.std.specs.Prelude.{◌≡◌, ℕ, ◌<◌, length, map, Option, IfOk};
 ghost use Rattle.std.specs.List.{AllByRecursion};
 ghost use Rattle.core_rules.specs.Term.{Term};
 ghost use Rattle.core_rules.specs.Substitution.{replace};
@@ -8,7 +8,7 @@ ghost use Rattle.core_rules.specs.BoundedLaws.{IsFull};
 ghost use Rattle.core_rules.specs.Unification.{begin, whole_types as whole_types_lem};
 ghost use Rattle.term_pool.specs.Pool.{Extends, tree};
 ghost use Rattle.core_terms.specs.Solutions.{AreIn, solved_in};
-ghost use Rattle.index_unify.specs.Unified.{EquationStands, context_in, equation_in, equations_in};
+ghost use Rattle.index_unify.specs.Unified.{EquationStands, context_in, equations_in};
 ghost use Rattle.index_unify.specs.State.{AllSettled, StateBelow, replaced, equations_of, state_in};
 
 use crate::equation::Equation;

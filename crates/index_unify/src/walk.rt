@@ -1,4 +1,4 @@
-ghost use Rattle.std.specs.Prelude.{◌≡◌, ◌<◌, length, slice_get, Some, IfOk};
+ghost use Rattle.std.specs.Prelude.{◌<◌, length, Some, IfOk};
 ghost use Rattle.term_pool.specs.Pool.{Pool, tree};
 ghost use Rattle.index_unify.specs.Walk.{Place, Reaches, Tells, Visits};
 

@@ -6,7 +6,7 @@ use Rattle.std.proofs.lemmas.Option.{slice_get-map, slice_get_within}
 use Rattle.std.proofs.lemmas.List.{length-map, length-reverse}
 use Rattle.core_rules.specs.declared.Flag.TheVariants.{Explicit}
 use Rattle.core_rules.specs.Term.{Term, Var, Sort, Pi, Def}
-use Rattle.core_rules.specs.Signature.{Signature, Context, Telescope, onto, Branch, Leaf, Intro, Split, NoCon, Goes, Family, Open, Function, numbers, without_cons}
+use Rattle.core_rules.specs.Signature.{Signature, Context, onto, Branch, Family, Open, numbers, without_cons}
 use Rattle.core_rules.specs.Elimination.{con_type}
 use Rattle.core_rules.specs.Typing.{entry, IsCon}
 use Rattle.core_rules.specs.InScope.{VarsBelow}

@@ -9,7 +9,7 @@ use Rattle.core_rules.specs.Elimination.{pi_over, con_end}
 use Rattle.core_rules.specs.Typing as T
 use Rattle.core_rules.specs.Typing.{Typing, WellFormed, HasSort}
 use Rattle.core_rules.specs.Derivable as D
-use Rattle.core_rules.specs.Derivable.{IsWithin, GoodCon, GoodFamily, Good, Derivable}
+use Rattle.core_rules.specs.Derivable.{IsWithin, GoodCon, GoodFamily, Derivable}
 use Rattle.core_rules.specs.InScope.{HasShape}
 use Rattle.core_rules.proofs.Signature.FamilyKnown.{known-derivable}
 use Rattle.kernel_rules.specs.Outcome.{Gives, Refuses}

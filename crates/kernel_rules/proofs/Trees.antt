@@ -8,7 +8,7 @@ use Rattle.core_rules.specs.Substitution.{shift, under}
 use Rattle.core_rules.specs.Signature.{Telescope, Context, onto, Branch, Tree, Leaf, Intro, Cosplit, Split, RecordSplit, Absurd, CoBranches, NoField, OnField, ConBranches, NoCon, Refuted, Goes, ConDecl, Signature, cons_of, fields_of}
 use Rattle.core_rules.specs.Conversion.{Conv}
 use Rattle.core_rules.specs.Typing as T
-use Rattle.core_rules.specs.Typing.{Typing, Fits, WellFormed, entry}
+use Rattle.core_rules.specs.Typing.{Typing, Fits, entry}
 use Rattle.core_rules.specs.InScope.{VarsBelow}
 use Rattle.core_rules.specs.Unification.{Equation, Solution, Solves, Refutes, Joins, Realises}
 use Rattle.core_rules.specs.TypedTree as Y

@@ -9,7 +9,7 @@ use Rattle.core_rules.specs.Mapped.{telescope_map}
 use Rattle.core_rules.specs.Examples.{families}
 use Rattle.core_rules.specs.Addition.{nat_type}
 use Rattle.core_rules.specs.Heads as H
-use Rattle.core_rules.specs.Heads.{Answer, Heads, Form, Bounded, Within, Out, HeadOf, IsForm}
+use Rattle.core_rules.specs.Heads.{Answer, Heads, Form, Bounded, Within, HeadOf, IsForm}
 use Rattle.core_rules.specs.Bounded.{Verdict, No, AreSame, ConvOf, Decided, decide}
 use Rattle.core_rules.specs.Unification as U
 use Rattle.core_rules.specs.Unification.{St, eq, Depends}

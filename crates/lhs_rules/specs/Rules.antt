@@ -18,7 +18,7 @@ use Rattle.need_rules.specs.Needs as needs
 use Rattle.el_outside.specs.declared.place.Pos.{Pos}
 use Rattle.lhs_rules.specs.Refusals.{Refusal, Kind, CannotSplit, UnifyStuck, NotAbsurd, WrongArity, NoSuchName, ForcedConstructor, Impossible, OutOfFuel, OutOfDepth, at}
 use Rattle.lhs_rules.specs.Asking.{Is, AsksHead, AsksUnifier, Reads, ◌>>=◌, gives}
-use Rattle.lhs_rules.specs.Spots.{Spot, AtVar, AtValue, Sketch, SketchShape, Left, left_term, type_at, spot_at, index_of, name_by, inserted_by, taken, with_pat, projected, put}
+use Rattle.lhs_rules.specs.Spots.{Spot, AtVar, AtValue, SketchShape, Left, left_term, type_at, spot_at, index_of, name_by, inserted_by, taken, with_pat, projected, put}
 use Rattle.lhs_rules.specs.Spots as spot
 use Rattle.lhs_rules.specs.Families.{AtFamily, at_family, AtCon, at_con}
 

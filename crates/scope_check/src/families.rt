@@ -1,5 +1,5 @@
 ghost use Rattle.std.specs.Prelude.{◌≡◌, [], None, OnOk};
-ghost use Rattle.scope_check.specs.Answers.{Binds, Leaves};
+ghost use Rattle.scope_check.specs.Answers.{Binds};
 ghost use Rattle.scope_check.specs.Decls as spec;
 ghost use Rattle.scope_table.specs.Known.{Grows, with_families};
 ghost use Rattle.source_tree.specs.declared.decl.Decl.TheVariants as d;

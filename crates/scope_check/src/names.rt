@@ -1,4 +1,4 @@
-ghost use Rattle.std.specs.Prelude.{◌≡◌, ◌++◌, [], ◌∷◌, map, reverse, Some, IfOk, OnOk};
+ghost use Rattle.std.specs.Prelude.{◌≡◌, map, Some, IfOk, OnOk};
 ghost use Rattle.scope_check.specs.Answers.{Answers, refused as is_refused, refused_hole as is_refused_hole};
 ghost use Rattle.scope_check.specs.Exprs as spec;
 

@@ -1,4 +1,4 @@
-ghost use Rattle.std.specs.Prelude.{◌≡◌, ◌<◌, ◌≤◌, ◌↔◌, ◌+◌, length, IfOk, IfSome, OnErr, IsTrue};
+ghost use Rattle.std.specs.Prelude.{◌≡◌, ◌<◌, ◌↔◌, ◌+◌, length, IfOk, IsTrue};
 ghost use Rattle.core_rules.specs.Term.{IsSameTerm, nameless};
 ghost use Rattle.term_pool.specs.Measures.{IsMeasured, has_meta};
 ghost use Rattle.term_pool.specs.Reach.{reach};

@@ -1,7 +1,7 @@
-ghost use Rattle.std.specs.Prelude.{◌≡◌, ◌<◌, length, map, IfOk, OnOk, refl};
+ghost use Rattle.std.specs.Prelude.{◌<◌, length, map, IfOk, OnOk, refl};
 ghost use Rattle.std.specs.List.{AllByRecursion};
 ghost use Rattle.core_rules.specs.Substitution.{shift, shift_var, subst, under};
-ghost use Rattle.term_pool.specs.Pool.{Pool, tree, Extends, StandsFor};
+ghost use Rattle.term_pool.specs.Pool.{tree, Extends, StandsFor};
 ghost use Rattle.term_pool.specs.Placed.{filled, placed, placed_var, placed-stays};
 ghost use Rattle.term_pool.specs.Shifted.{AreShifted, IsReady, IsReady-stays};
 

@@ -6,7 +6,7 @@ use Rattle.core_rules.specs.Signature.{Signature}
 use Rattle.core_rules.specs.Elimination.{Elim, Arg, Field}
 use Rattle.core_rules.specs.Heads.{Answer, Within, Out, HeadOf}
 use Rattle.core_rules.specs.Bounded as B
-use Rattle.core_rules.specs.Bounded.{Verdict, Yes, No, WaitsFor, ConvOf}
+use Rattle.core_rules.specs.Bounded.{Verdict, Yes, No, WaitsFor}
 use Rattle.core_rules.specs.BoundedLaws.{no_solutions, shown}
 use Rattle.core_rules.specs.Unification.{Equation, eq, State, CanSolve, con_spine, Pairs, no_pair, pair, UnderCon, inside, InOne, it, deeper, later}
 use Rattle.core_rules.proofs.Heads.OneAnswer.{one_some}

@@ -8,7 +8,7 @@ use Rattle.core_rules.specs.Bounded as B
 use Rattle.core_rules.specs.Bounded.{Verdict, Yes, No, WaitsFor, ConvOf}
 use Rattle.core_rules.specs.BoundedLaws.{no_solutions, shown}
 use Rattle.core_rules.specs.Unification as U
-use Rattle.core_rules.specs.Unification.{Equation, eq, Solution, State, St, HasClash, Step, Steps, stop, go}
+use Rattle.core_rules.specs.Unification.{Equation, eq, Solution, State, St, HasClash, Step, stop, go}
 use Rattle.core_rules.proofs.Heads.Fit.{HasFitTrees}
 use Rattle.core_rules.proofs.Heads.Sound.{heads_sound}
 use Rattle.unify_rules.specs.Unifier.{Outcome, Solved, Conflict, Cycle, Stuck, OutOfFuel, OutOfDepth, Rule, Chosen, left_one, right_one, SameCon, same_con, OtherCon, other_con, Cycles, cycles_left, cycles_right, Applies, solves, injects, conflicts, cycles, sticks, Ruled, Next, Answers, Goes, after, Turn, done, out_left, out_right, turn, Unify, answers, goes}

@@ -1,4 +1,4 @@
-ghost use Rattle.std.specs.Prelude.{◌≡◌, ℕ, ◌<◌, List, length, slice_get, Some, None, option_and_then, IfSome, MatchOption, get_or};
+ghost use Rattle.std.specs.Prelude.{◌≡◌, ◌<◌, List, length, slice_get, Some, None, option_and_then, IfSome, MatchOption};
 ghost use Rattle.core_rules.specs.Term.{Term};
 ghost use Rattle.core_rules.specs.Signature.{tree_of, fields_of};
 ghost use Rattle.core_rules.specs.Run.{takes};

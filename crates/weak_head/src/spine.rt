@@ -1,7 +1,7 @@
-ghost use Rattle.std.specs.Prelude.{◌≡◌, ℕ, ◌<◌, ◌≤◌, drop, length, map, reverse, slice_get, option_map, option_and_then, ◌+◌, ◌^◌, IfOk, IfSome};
+ghost use Rattle.std.specs.Prelude.{◌≡◌, ℕ, ◌<◌, drop, map, reverse, slice_get, option_map, option_and_then, ◌+◌, ◌^◌, IfOk, IfSome};
 ghost use Rattle.std.specs.List.{AllByRecursion};
 ghost use Rattle.core_rules.specs.Term.{Term};
-ghost use Rattle.weak_head.specs.Elims.{AllBelow, AreArgs, IsFirstField};
+ghost use Rattle.weak_head.specs.Elims.{AllBelow, IsFirstField};
 ghost use Rattle.weak_head.specs.Elims.{arg_of, args_of, spine_in};
 
 use crate::elim::{Elim, Spine};

@@ -1,6 +1,5 @@
 -- What head forms show, what names stand for and what arguments make is in scope.
-use Rattle.std.proofs.Common.{◌≡◌, ◌+◌, ℕ, Bool, true, false, [], ◌∷◌, sym, subst, arith, map}
-use Rattle.std.specs.Prelude.{cond}
+use Rattle.std.proofs.Common.{◌≡◌, ◌+◌, ℕ, [], ◌∷◌, sym, subst, arith, map}
 use Rattle.core_rules.specs.declared.Flag.{Flag}
 use Rattle.core_rules.specs.declared.Flag.TheVariants.{Explicit, Implicit}
 use Rattle.core_rules.specs.Term.{Term, Var, Sort, Pi, Lam, App, Def, Fam, Con, Proj, Meta}
@@ -11,11 +10,10 @@ use Rattle.core_rules.specs.BoundedLaws.{no_solutions}
 use Rattle.core_rules.specs.Heads.{Answer, Form, Blocked, Bounded, Within, Out, HeadOf}
 use Rattle.core_rules.proofs.Scope.Changed.{shift-in_scope}
 use Rattle.core_rules.proofs.Scope.HeadForms.{heads-in_scope}
-use Rattle.kernel_rules.specs.Outcome.{Outcome, Gives, Refuses}
+use Rattle.kernel_rules.specs.Outcome.{Gives}
 use Rattle.kernel_rules.proofs.Outcome.{one_gives}
 use Rattle.need_rules.specs.Needs.{Need, Explicit as GivenPlain, Given, Insert, Project, End, NotAFunction, NotARecord, NoSuchName, Waits, need_at_end}
 use Rattle.el_outside.specs.declared.place.Pos.{Pos}
-use Rattle.written_rules.specs.Refusals.{Refusal, at, CannotInfer}
 use Rattle.written_rules.specs.Asking.{Is, Comes}
 use Rattle.written_rules.specs.Rules.{Values, Checks, Types, binding, raised, within, shows, not_inserted, uninserted, wanted, function_shown, function_wanted}
 use Rattle.written_rules.specs.Laws.{ValuesInScope}

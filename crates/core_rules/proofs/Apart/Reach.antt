@@ -7,7 +7,7 @@ use Rattle.core_rules.specs.Term.{Term, Var, Sort, Pi, Lam, App, Def, Fam, Con, 
 use Rattle.core_rules.specs.Substitution.{over, shift, subst}
 use Rattle.core_rules.specs.Signature.{Signature}
 use Rattle.core_rules.specs.Conversion as C
-use Rattle.core_rules.specs.Conversion.{Conv, IsEtaCon}
+use Rattle.core_rules.specs.Conversion.{Conv}
 use Rattle.core_rules.specs.Separation.{IsInert}
 use Rattle.core_rules.proofs.Apart.Substituted.{Env, sub_var, sub, cons, sub_id, sub_variable, sub_under, sub_beta, sub_eta}
 

@@ -13,7 +13,7 @@ use Rattle.core_rules.specs.Elimination.{Elim, Arg, Field, elims, args, projecti
 use Rattle.core_rules.specs.Run as R
 use Rattle.core_rules.specs.Run.{ConApp, con_app, takes, is_record_con, full_con, parts, spread, kept, Run}
 use Rattle.core_rules.specs.Conversion as C
-use Rattle.core_rules.specs.Conversion.{Conv, IsArgument}
+use Rattle.core_rules.specs.Conversion.{Conv}
 use Rattle.core_rules.specs.Heads.{Answer, Form, Blocked, is_first, argument_of, Taken, taken, Choice, Enters, enter, branch_at, choice, Heads, form, argument, projection, beta, project, replaced, unsolved, call, Follows, leaf, intro, cosplit, split, record_split, stuck, After, enters, stays, waits}
 use Rattle.core_rules.specs.BoundedLaws.{no_solutions, shown}
 use Rattle.core_rules.proofs.Heads.Fit.{IsEtaRecord, KeepsOnce, IsFit, AreFit, BranchesFit, HasFitTrees}

@@ -10,7 +10,7 @@ use Rattle.core_rules.specs.Heads.{Solutions, Answer, Bounded, Within, Out, Head
 use Rattle.core_rules.specs.Bounded.{Verdict, Yes, No, OutOfFuel, OutOfDepth, WaitsFor, Part, Pair, Decision, Now, Parts, same_flag, with_part, argument_parts, term_parts, Cut, cut_more, last_field, Lambda, lambda, applied, fitting, RecordValue, record_value, Kind, Value, Constructor, Neither, con_kind, kind, parts_or, if_one, same_heads, by_field, by_kind, by_lambda, decide, below, InOrder, Decided, full, AreSame, ByHeads, ConvOf}
 use Rattle.core_rules.specs.NameLaws.{IsSameVerdict}
 use Rattle.core_rules.proofs.Names.Alike as A
-use Rattle.core_rules.proofs.Names.Alike.{Alike, EachAlike, SpineAlike, same_of, turned, turned_spine, alike_of, alike-shift, alike-elims, alike-replace}
+use Rattle.core_rules.proofs.Names.Alike.{Alike, EachAlike, SpineAlike, same_of, turned, alike_of, alike-shift, alike-elims, alike-replace}
 use Rattle.core_rules.proofs.Pairwise as P
 use Rattle.core_rules.proofs.Names.HeadForms as H
 use Rattle.core_rules.proofs.Names.HeadForms.{AnswerAlike, heads-alike, projected-alike}

@@ -7,9 +7,9 @@ use Rattle.core_rules.specs.Substitution.{over, under, value_at}
 use Rattle.core_rules.specs.Signature.{Signature, Branch, Tree, Leaf, Intro, Cosplit, Split, RecordSplit, Absurd, CoBranches, NoField, OnField, ConBranches, NoCon, Refuted, Goes, co_branch, con_branch, fields_of}
 use Rattle.core_rules.specs.Elimination.{Elim, elims, projections, elims_over}
 use Rattle.core_rules.specs.Run as run
-use Rattle.core_rules.specs.Run.{Run, ConApp, takes, is_record_con, full_con, parts, spread, kept}
+use Rattle.core_rules.specs.Run.{Run, ConApp, is_record_con, full_con, parts, spread, kept}
 use Rattle.core_rules.specs.Conversion as C
-use Rattle.core_rules.specs.Conversion.{Conv, IsArgument}
+use Rattle.core_rules.specs.Conversion.{Conv}
 use Rattle.core_rules.specs.Laws.{IsLifted, RunsTo}
 use Rattle.core_rules.specs.InScope.{FamiliesHaveShape}
 use Rattle.core_rules.proofs.Substitution.Lifted.{over-under}

@@ -5,7 +5,7 @@ use Rattle.core_rules.specs.Term.{Term}
 use Rattle.core_rules.specs.Substitution.{over, under, value_at}
 use Rattle.core_rules.specs.Signature.{Signature, Tree, Leaf}
 use Rattle.core_rules.specs.Elimination.{Elim, elims, elims_over}
-use Rattle.core_rules.specs.Run.{Run, ConApp, full_con, parts, spread, kept}
+use Rattle.core_rules.specs.Run.{Run, full_con, parts, spread, kept}
 use Rattle.core_rules.specs.Run as R
 use Rattle.core_rules.specs.Laws.{IsLifted}
 use Rattle.core_rules.proofs.Substitution.Lifted.{over-under}

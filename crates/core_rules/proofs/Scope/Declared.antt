@@ -5,7 +5,7 @@ use Rattle.std.proofs.Common.{ap, ◌∙◌, subst as transport, arith}
 use Rattle.std.proofs.lemmas.Option.{slice_get_within}
 use Rattle.core_rules.specs.Term.{Term, Terms, App, Fam, Proj, env_of}
 use Rattle.core_rules.specs.Substitution.{shift, under}
-use Rattle.core_rules.specs.Signature.{Signature, Entry, Context, Telescope, onto, FamDecl, ConDecl, Decl, Family, without_cons, defs, fams, decl_type, def_type, fam_decl, places, field_counts, fields_of}
+use Rattle.core_rules.specs.Signature.{Signature, Entry, Context, Telescope, FamDecl, ConDecl, Decl, Family, without_cons, defs, fams, decl_type, def_type, fam_decl, places, field_counts, fields_of}
 use Rattle.core_rules.specs.Elimination.{Elim, Arg, Field, elims, args, vars_from, projections, fam_type, con_type}
 use Rattle.core_rules.specs.Typing as T
 use Rattle.core_rules.specs.Typing.{IsCon, IsField, WellFormed, field_env}

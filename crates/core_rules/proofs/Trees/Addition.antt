@@ -2,18 +2,18 @@
 use Rattle.std.specs.Prelude.{◌≡◌, ℕ, [], ◌∷◌, ◌++◌, slice_get, Some, refl, zero, suc}
 use Rattle.std.proofs.Common.{subst, arith}
 use Rattle.core_rules.specs.declared.Flag.TheVariants.{Explicit}
-use Rattle.core_rules.specs.Term.{Term, Var, Pi, App, Def, Fam, Con, End, HasNoMeta}
+use Rattle.core_rules.specs.Term.{Term, Var, Pi, Def, HasNoMeta}
 use Rattle.core_rules.specs.Signature.{Signature, Context, Family, Open, Function, onto, def_type}
 use Rattle.core_rules.specs.Mapped.{AllDecl}
 use Rattle.core_rules.specs.Conversion as C
 use Rattle.core_rules.specs.Typing as T
 use Rattle.core_rules.specs.Typing.{Typing, entry}
 use Rattle.core_rules.specs.Unification as U
-use Rattle.core_rules.specs.Unification.{Joins, Realises}
+use Rattle.core_rules.specs.Unification.{Realises}
 use Rattle.core_rules.specs.TypedTree as Y
-use Rattle.core_rules.specs.TypedTree.{IsAt, Splitting, splitting, con_context, TypedTree}
+use Rattle.core_rules.specs.TypedTree.{IsAt, TypedTree}
 use Rattle.core_rules.specs.Derivable as D
-use Rattle.core_rules.specs.Derivable.{Derivable, Good}
+use Rattle.core_rules.specs.Derivable.{Derivable}
 use Rattle.core_rules.specs.Examples.{nat, suc_con}
 use Rattle.core_rules.specs.Addition.{addition, nat_type, plus_tree, plus_term, suc_term, at_zero, at_suc}
 use Rattle.core_rules.proofs.Signature.Growth.{derivable-extended}

@@ -13,7 +13,7 @@ use Rattle.core_rules.specs.Conversion.{Conv}
 use Rattle.core_rules.specs.Typing as T
 use Rattle.core_rules.specs.Typing.{Typing, WellFormed, HasSort, entry}
 use Rattle.core_rules.specs.Unification as U
-use Rattle.core_rules.specs.Unification.{eq, Solution, Depends, CanSolve, Solves, Realises, whole_types}
+use Rattle.core_rules.specs.Unification.{eq, Solution, Depends, Solves, Realises, whole_types}
 use Rattle.core_rules.specs.TypedTree as Y
 use Rattle.core_rules.specs.TypedTree.{IsAt, TypedTree}
 use Rattle.core_rules.specs.Derivable as D

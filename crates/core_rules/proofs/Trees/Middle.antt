@@ -10,7 +10,7 @@ use Rattle.core_rules.specs.Elimination.{Arg}
 use Rattle.core_rules.specs.Run as R
 use Rattle.core_rules.specs.Conversion as C
 use Rattle.core_rules.specs.Typing as T
-use Rattle.core_rules.specs.Typing.{Typing, WellFormed, entry}
+use Rattle.core_rules.specs.Typing.{Typing, entry}
 use Rattle.core_rules.specs.Unification as U
 use Rattle.core_rules.specs.Unification.{eq, Solution, Depends, Solves, Realises, whole_types}
 use Rattle.core_rules.specs.TypedTree as Y

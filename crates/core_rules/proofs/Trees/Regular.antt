@@ -3,7 +3,7 @@ use Rattle.std.specs.Prelude.{◌≡◌, ◌≢◌, ℕ, ◌+◌, List, [], ◌�
 use Rattle.std.proofs.Common.{ap, sym, ◌∙◌, arith, append-nil, subst as transport}
 use Rattle.std.proofs.lemmas.List.{take-append-drop}
 use Rattle.core_rules.specs.Term.{Term, Var}
-use Rattle.core_rules.specs.Signature.{Signature, Context, Telescope, onto, Branch, Tree, CoBranches, ConBranches, FamDecl, ConDecl, Decl, Postulate, Open, Function, fams, fam_decl, tree_of}
+use Rattle.core_rules.specs.Signature.{Signature, Context, Telescope, onto, Branch, Tree, CoBranches, ConBranches, FamDecl, ConDecl, Open, Function, fams, fam_decl}
 use Rattle.core_rules.specs.BoundedLaws.{AreDistinct, KeepsApart, IsRegular, AreRegular, BranchesAreRegular, HasRegularTrees}
 use Rattle.core_rules.specs.Unification.{Solution, Joins}
 use Rattle.core_rules.specs.TypedTree as Y

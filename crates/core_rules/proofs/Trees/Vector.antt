@@ -10,9 +10,9 @@ use Rattle.core_rules.specs.Conversion as C
 use Rattle.core_rules.specs.Typing as T
 use Rattle.core_rules.specs.Typing.{Typing, entry}
 use Rattle.core_rules.specs.Unification as U
-use Rattle.core_rules.specs.Unification.{Equation, eq, Solution, Depends, CanSolve, Solves, Refutes, Realises, whole_types}
+use Rattle.core_rules.specs.Unification.{eq, Solution, Depends, Solves, Refutes, Realises, whole_types}
 use Rattle.core_rules.specs.TypedTree as Y
-use Rattle.core_rules.specs.TypedTree.{IsAt, TypedTree}
+use Rattle.core_rules.specs.TypedTree.{IsAt}
 use Rattle.core_rules.specs.Examples.{vec}
 use Rattle.core_rules.specs.Addition.{nat_type, suc_term}
 use Rattle.core_rules.specs.VectorHead.{vector, at_cons, vectors, FirstTyped}

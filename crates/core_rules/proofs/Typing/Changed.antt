@@ -8,7 +8,7 @@ use Rattle.core_rules.specs.Signature.{Signature, Entry, Context, onto, def_type
 use Rattle.core_rules.specs.Elimination.{elims, args, projections, fam_type, con_type}
 use Rattle.core_rules.specs.Conversion.{Conv}
 use Rattle.core_rules.specs.Typing as T
-use Rattle.core_rules.specs.Typing.{Typing, Fits, IsCon, IsField, entry, field_env}
+use Rattle.core_rules.specs.Typing.{Typing, Fits, IsField, entry, field_env}
 use Rattle.core_rules.specs.Laws.{IsLifted}
 use Rattle.core_rules.proofs.Substitution.Lifted.{over-under}
 use Rattle.core_rules.proofs.Conversion.Changed.{over-beta}

@@ -8,7 +8,7 @@ use Rattle.core_rules.specs.Signature.{Signature, Entry, Context}
 use Rattle.core_rules.specs.Conversion as C
 use Rattle.core_rules.specs.Conversion.{Conv}
 use Rattle.core_rules.specs.Typing as T
-use Rattle.core_rules.specs.Typing.{Typing, Fits, WellFormed, HasSort}
+use Rattle.core_rules.specs.Typing.{Typing, Fits, WellFormed}
 use Rattle.core_rules.specs.InScope.{InScope, AllInScope, FamiliesHaveShape, SignatureInScope, any_meta}
 use Rattle.core_rules.specs.TypedTree.{vars}
 use Rattle.core_rules.specs.Laws as L

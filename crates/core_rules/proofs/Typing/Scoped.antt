@@ -11,8 +11,8 @@ use Rattle.core_rules.specs.Signature.{Signature, Context, Telescope, onto, FamD
 use Rattle.core_rules.specs.Elimination.{Elim, Arg, Field, elims, args, pi_over, vars_from, con_type}
 use Rattle.core_rules.specs.Typing as T
 use Rattle.core_rules.specs.Derivable as D
-use Rattle.core_rules.specs.Derivable.{IsWithin, GoodCon, GoodFamily, Good, Derivable}
-use Rattle.core_rules.specs.Typing.{Typing, Fits, WellFormed, IsCon, IsField, entry}
+use Rattle.core_rules.specs.Derivable.{IsWithin, GoodCon, GoodFamily}
+use Rattle.core_rules.specs.Typing.{Typing, Fits, WellFormed, IsCon, IsField}
 use Rattle.core_rules.specs.InScope.{InScope, AllInScope, TelescopeInScope, ConInScope, FamilyInScope, con_params, any_meta}
 use Rattle.core_rules.proofs.Signature.Places.{length-numbers}
 use Rattle.core_rules.proofs.Run.Records.{goes_on}

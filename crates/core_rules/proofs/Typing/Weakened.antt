@@ -6,7 +6,7 @@ use Rattle.core_rules.specs.Substitution.{over, shift, shift_var}
 use Rattle.core_rules.specs.Signature.{Signature, Entry, Context}
 use Rattle.core_rules.specs.InScope.{SignatureInScope}
 use Rattle.core_rules.specs.Typing as T
-use Rattle.core_rules.specs.Typing.{Typing, Fits, entry}
+use Rattle.core_rules.specs.Typing.{Typing, entry}
 use Rattle.core_rules.specs.Laws.{IsLifted, inserted}
 use Rattle.core_rules.proofs.Substitution.Lifted.{over-shift, over_shift, shift_twice, shift_variable}
 use Rattle.core_rules.proofs.Substitution.Changes.{shift_lifted}

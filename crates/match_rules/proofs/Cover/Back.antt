@@ -16,7 +16,7 @@ use Rattle.core_rules.proofs.Heads.Sound.{eqb_same, and_true, cond_some, by_full
 use Rattle.match_rules.proofs.Cover.Values.{under-var}
 use Rattle.match_rules.proofs.Cover.Fields.{one_field}
 use Rattle.match_rules.proofs.Cover.Comes as K
-use Rattle.match_rules.proofs.Cover.Comes.{AreArgs, Comes, Goes, Came, of_head, to_head, peel, app_of_args, app_past_args, comes-on, comes_in, comes_out, at_other_params}
+use Rattle.match_rules.proofs.Cover.Comes.{AreArgs, Comes, Goes, Came, of_head, to_head, comes-on, comes_in, comes_out}
 use Rattle.match_rules.proofs.Cover.Named as N
 use Rattle.match_rules.proofs.Cover.Named.{named-sym, named-trans, named_eq, elims-refl, comes_named}
 use Rattle.match_rules.proofs.Cover.Like as L

@@ -12,7 +12,7 @@ use Rattle.core_rules.specs.Examples.{suc_con}
 use Rattle.core_rules.specs.Addition.{suc_term, plus_term}
 use Rattle.match_rules.specs.AdditionClauses.{zero_clause, suc_clause, one_number, plus_branches, plus_covered, addition_by_clauses}
 use Rattle.match_rules.specs.Matching as M
-use Rattle.match_rules.specs.Matching.{Clause, clause_of, HasHead, FirstMatch, Fits, FitsBranch}
+use Rattle.match_rules.specs.Matching.{clause_of, HasHead, FirstMatch, Fits, FitsBranch}
 use Rattle.match_rules.proofs.Cover.Values.{under-var}
 use Rattle.match_rules.proofs.Cover.Standing.{one_head}
 use Rattle.match_rules.proofs.Cover.First.{clause_holds}

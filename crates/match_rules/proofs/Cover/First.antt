@@ -10,15 +10,15 @@ use Rattle.core_rules.specs.Substitution.{shift, value_at, under}
 use Rattle.core_rules.specs.Signature.{Signature, Branch, Tree, Split, ConBranches, ConDecl, con_branch, con_decl, con_place, fam_decl, fields_of, tree_of, decl_tree}
 use Rattle.core_rules.specs.Elimination.{Elim, Arg, Field, elims, args, projections}
 use Rattle.core_rules.specs.Run as R
-use Rattle.core_rules.specs.Run.{ConApp, con_app, takes, full_con, parts, spread, kept, Run}
+use Rattle.core_rules.specs.Run.{ConApp, con_app, takes, full_con, parts, spread, kept}
 use Rattle.core_rules.specs.Conversion as C
 use Rattle.core_rules.specs.Conversion.{Conv, IsEtaCon}
 use Rattle.core_rules.specs.InScope.{FamiliesHaveShape, SignatureInScope, any_meta}
 use Rattle.core_rules.specs.TypedTree.{into, new_con}
 use Rattle.match_rules.specs.Matching as M
-use Rattle.match_rules.specs.Matching.{Shape, Any, OfCon, OfRecord, Nothing, OfField, Shapes, NoShape, AndShape, Clause, Bound, find, values_from, HasHead, Front, Apart, FirstMatch, Fits, FitsBranch, eta_family, clause_of, ClauseHolds}
+use Rattle.match_rules.specs.Matching.{Shape, OfField, Shapes, NoShape, AndShape, Clause, Bound, find, values_from, HasHead, Front, Apart, FirstMatch, Fits, FitsBranch, eta_family, clause_of, ClauseHolds}
 use Rattle.match_rules.specs.Covering as V
-use Rattle.match_rules.specs.Covering.{Verdict, Yes, No, At, LooksAll, IsArg, Due, Ends, NextArg, NextField, SplitAt, RecordSplitAt, IsDue, elim_map, elims_map, Covers}
+use Rattle.match_rules.specs.Covering.{Verdict, Yes, No, At, LooksAll, IsArg, Ends, NextArg, NextField, SplitAt, IsDue, elims_map, Covers}
 use Rattle.core_rules.specs.TreeLaws.{HasTypedTrees}
 use Rattle.match_rules.specs.Laws.{IsCovered}
 use Rattle.core_rules.proofs.Typing.Closed.{have-shape}
@@ -31,7 +31,7 @@ use Rattle.core_rules.proofs.Conversion.Shifted.{ConvEnv, conv-under}
 use Rattle.core_rules.proofs.Conversion.Shifted as W
 use Rattle.core_rules.proofs.Heads.Fit.{IsEtaRecord, IsFit, HasFitTrees}
 use Rattle.core_rules.proofs.Heads.Gather as E
-use Rattle.core_rules.proofs.Heads.Gather.{ConvEach, ConvElims, each_same, elims_same, each_length, each_join, each_reverse}
+use Rattle.core_rules.proofs.Heads.Gather.{ConvEach, each_same, elims_same, each_length, each_join, each_reverse}
 use Rattle.core_rules.proofs.Heads.Sound.{heads_sound, con_app-args, full_con_by, eqb_same, Gives, gives_intro, gives_cosplit, gives_split, gives_record, co_regular, con_regular, spread_length, call_gives}
 use Rattle.core_rules.proofs.Heads.OneAnswer.{one_some}
 use Rattle.match_rules.proofs.Cover.Values.{under-var}
@@ -43,7 +43,7 @@ use Rattle.match_rules.proofs.Cover.Opened.{like_split, like_record}
 use Rattle.match_rules.proofs.Cover.Back as B
 use Rattle.match_rules.proofs.Cover.Back.{PlainSplits}
 use Rattle.match_rules.proofs.Cover.Standing as S
-use Rattle.match_rules.proofs.Cover.Standing.{HasCon, Stands, StandsFor, Decided, DecidedAll, Takes, FrontMeans, takes_then, looks_all_means, front_one, not_both, not_both_front}
+use Rattle.match_rules.proofs.Cover.Standing.{HasCon, Stands, StandsFor, DecidedAll, Takes, FrontMeans, takes_then, looks_all_means, front_one, not_both, not_both_front}
 
 module _ (g : Signature Term) where
   stands_raise : {r : List Term} (u : Term) (b c : Flag) (ls : List Elim) {es : List Elim} → Stands g r ls es → Stands g (u ∷ r) (elims_map (λ t. shift t 0 1) ls ++ (Arg b (Var 0) ∷ [])) (es ++ (Arg c u ∷ []))

@@ -24,7 +24,7 @@ use Rattle.core_rules.proofs.Heads.Gather.{ConvEach, ConvElims, conv-elims_all}
 use Rattle.core_rules.proofs.Heads.Sound.{heads_sound, elims_args}
 use Rattle.match_rules.proofs.Cover.Comes.{Comes, to_head, comes-over}
 use Rattle.match_rules.proofs.Cover.Named as N
-use Rattle.match_rules.proofs.Cover.Named.{Named, NamedAll, NamedElims, NamedEach, named-refl, named-sym, named-trans, named_eq, named_conv, named_over, elims-refl, comes_named}
+use Rattle.match_rules.proofs.Cover.Named.{Named, NamedAll, NamedElims, NamedEach, named-refl, named-sym, named-trans, named_eq, named_conv, named_over, comes_named}
 
 mutual
   -- under d binders t stands for v, where r has the values of t's other variables

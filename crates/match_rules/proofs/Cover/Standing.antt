@@ -9,9 +9,9 @@ use Rattle.core_rules.specs.Elimination.{Elim, Arg, Field, projections}
 use Rattle.core_rules.specs.Heads.{Form}
 use Rattle.core_rules.specs.InScope.{FamiliesHaveShape}
 use Rattle.match_rules.specs.Matching as M
-use Rattle.match_rules.specs.Matching.{Shape, Any, OfCon, OfRecord, Nothing, OfField, Shapes, NoShape, AndShape, eta_family, Bound, binds, HasHead, as_args, Matches, Front, Clashes, Apart}
+use Rattle.match_rules.specs.Matching.{Shape, OfCon, OfRecord, OfField, Shapes, NoShape, AndShape, Bound, binds, HasHead, as_args, Matches, Front, Clashes, Apart}
 use Rattle.match_rules.specs.Covering as V
-use Rattle.match_rules.specs.Covering.{Verdict, Yes, No, At, RecordAt, Stop, whole, join, IsItself, Looks, LooksAll}
+use Rattle.match_rules.specs.Covering.{Verdict, Yes, No, At, RecordAt, Stop, whole, join, Looks, LooksAll}
 use Rattle.core_rules.proofs.Heads.OneAnswer.{heads_one}
 use Rattle.match_rules.proofs.Cover.Like as L
 use Rattle.match_rules.proofs.Cover.Like.{Like, LikeElims, LikeEach}

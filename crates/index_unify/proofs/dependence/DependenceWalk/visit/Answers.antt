@@ -7,7 +7,7 @@ use Rattle.index_unify.specs.Queue.{Adds}
 use Rattle.index_unify.specs.Dependence.{is_target}
 use Rattle.index_unify.proofs.Opened.{length_map, var_tree, var-goal, var-other, var-opens, var-free, parts-goal, parts-opens}
 use Rattle.index_unify.proofs.dependence.DependenceWalk.visit.Goals as goal
-use Rattle.index_unify.proofs.dependence.DependenceWalk.visit.Goals.{In-Variable, In-Two}
+use Rattle.index_unify.proofs.dependence.DependenceWalk.visit.Goals.{In-Variable}
 
 is_var : (c : In-Variable) → tree c.args.pool.now c.args.t ≡ Var c.in-Variable.index
 is_var c = c.node.ensures.is ∙ var_tree (tree c.args.pool.now) c.node.result c.in-Variable.index (sym c.parts.ensures ∙ c.in-Variable.is)
