@@ -11,7 +11,7 @@ use Rattle.core_rules.specs.BoundedLaws.{ExactlyOne}
 use Rattle.core_rules.proofs.Heads.Needed.{head_of_stands}
 use Rattle.core_rules.proofs.Heads.OneVerdict.{head_of_one}
 use Rattle.kernel_rules.specs.Outcome.{Outcome, Gives, Refuses, Then, goes_on, stops}
-use Rattle.kernel_rules.proofs.Outcome.{one_gives}
+use Rattle.kernel_rules.proofs.Outcome.{one_gives, then-gives}
 use Rattle.lhs_rules.specs.Refusals.{Refusal}
 use Rattle.lhs_rules.specs.Asking.{Asking, Is, AsksHead, AsksUnifier, Reads, and_then, Comes}
 
@@ -62,3 +62,7 @@ module _ (g : Signature Term) (s : Solutions) (fuel : ℕ) (U : Unifier) where
   then_comes (AsksHead t f) k r (stops e x y) = (x.0, x.1, then_comes (f x.0) k r (stops e x.2 y))
   then_comes (AsksUnifier c es f) k r (goes_on a x y) = (x.0, x.1, then_comes (f x.0) k r (goes_on a x.2 y))
   then_comes (AsksUnifier c es f) k r (stops e x y) = (x.0, x.1, then_comes (f x.0) k r (stops e x.2 y))
+
+  -- what gives something at the end gave something before
+  pub then_gives : {A B : Type 0} (m : Reads A) (k : A → Reads B) (b : B) → Comes g s fuel U (and_then m k) (Gives b) → (a : A) × Comes g s fuel U m (Gives a) × Comes g s fuel U (k a) (Gives b)
+  then_gives m k b x = then-gives (comes_then m k (Gives b) x)

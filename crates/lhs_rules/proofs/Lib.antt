@@ -2,3 +2,9 @@ pub mod Comes
 pub mod Answered
 pub mod Forms
 pub mod ByHand
+pub mod Needed
+pub mod Steps
+pub mod Kept
+pub mod Nothing
+pub mod Families
+pub mod Scoped

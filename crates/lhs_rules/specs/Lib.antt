@@ -4,5 +4,6 @@ pub mod Spots
 pub mod Families
 pub mod Rules
 pub mod Patterns
+pub mod Absurd
 pub mod Laws
 pub mod Examples
