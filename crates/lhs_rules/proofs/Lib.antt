@@ -8,3 +8,4 @@ pub mod Kept
 pub mod Nothing
 pub mod Families
 pub mod Scoped
+pub mod Typed

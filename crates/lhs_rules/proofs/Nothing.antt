@@ -10,7 +10,7 @@ use Rattle.kernel_rules.specs.Outcome.{Gives}
 use Rattle.kernel_rules.proofs.Outcome.{one_gives}
 use Rattle.match_rules.specs.Matching.{Shapes, clause_of, con_shape, eta_family, shape_of, pats_shapes, pats_vars}
 use Rattle.cover_rules.specs.LeftSide.{shape_values, pats_values}
-use Rattle.cover_rules.specs.Ready.{HasNothing, OneNothing, it, in_con, in_record, here, later, IsReady, AllReady}
+use Rattle.cover_rules.specs.Ready.{HasNothing, OneNothing, it, in_con, in_record, here, later, AllReady}
 use Rattle.cover_rules.specs.Ready as ready
 use Rattle.cover_rules.specs.Laws.{ClausesPlain}
 use Rattle.need_rules.specs.Needs.{Next}
@@ -23,7 +23,7 @@ use Rattle.lhs_rules.specs.Spots.{Sketch, SketchShape, Left, start, taken}
 use Rattle.lhs_rules.specs.Rules.{Visits, Read, PatternMeaning, ElimMeaning, Slot, ReadAll, read_all, visit_all, constructor, one_elim, most_inserted, all_elims}
 use Rattle.lhs_rules.specs.Patterns.{inside, pattern_step, pattern_meaning, pats_in, settled_shape, settled_pats, left_of, LeftOf, AnswersWith}
 use Rattle.lhs_rules.specs.Absurd.{absurd_step, is_absurd, is_ended}
-use Rattle.lhs_rules.specs.Laws.{ClauseRead, ClausesRead}
+use Rattle.lhs_rules.specs.Laws.{ClausesRead}
 use Rattle.lhs_rules.specs.Laws as laws
 use Rattle.lhs_rules.proofs.Comes.{then_gives}
 use Rattle.lhs_rules.proofs.Forms.{pattern_out}

@@ -2,18 +2,26 @@
 use Rattle.std.specs.Prelude.{◌≡◌, ◌<◌, ℕ, true, List, [], ◌∷◌, length, map, slice_get, Some, is_some}
 use Rattle.std.specs.List.{AllByRecursion, list_any}
 use Rattle.core_rules.specs.Term.{Term, HasNoMeta}
-use Rattle.core_rules.specs.Signature.{Signature, Decl, CheckedLeft, CoreClause, defs}
+use Rattle.core_rules.specs.Signature.{Signature, Decl, CheckedLeft, CoreClause, defs, def_type}
+use Rattle.core_rules.specs.Typing.{Typing}
+use Rattle.core_rules.specs.TreeLaws.{IsSound}
+use Rattle.core_rules.specs.UnifierAnswers.{Answers, answers, IsUnifier}
 use Rattle.core_rules.specs.Mapped.{AllDecl}
 use Rattle.core_rules.specs.InScope.{InScope, SignatureInScope, SolutionsInScope, LeftInScope, IsAcyclic}
 use Rattle.core_rules.specs.ScopeLaws.{ForMetas}
 use Rattle.core_rules.specs.Heads.{Solutions}
-use Rattle.core_rules.specs.BoundedLaws.{ExactlyOne}
+use Rattle.core_rules.specs.BoundedLaws.{ExactlyOne, no_solutions}
 use Rattle.kernel_rules.specs.Outcome.{Gives}
 use Rattle.match_rules.specs.Matching.{clause_of}
 use Rattle.cover_rules.specs.Ready.{OneNothing, AllReady}
 use Rattle.resolved_tree.specs.declared.resolved.ResolvedClause.{ResolvedClause}
+use Rattle.resolved_tree.specs.declared.resolved.ResolvedPattern.{ResolvedPattern}
 use Rattle.lhs_rules.specs.Absurd.{is_absurd, is_ended}
-use Rattle.lhs_rules.specs.Patterns.{LeftOf}
+use Rattle.lhs_rules.specs.Asking.{Comes}
+use Rattle.lhs_rules.specs.Spots.{Left, start, left_term}
+use Rattle.lhs_rules.specs.Rules.{all_elims}
+use Rattle.lhs_rules.specs.Patterns.{pattern_meaning, LeftOf}
+use Rattle.lhs_rules.specs.Reached.{Reached, ConstructorsFit}
 
 -- of any clause, in scope or not, whichever metavariables are solved
 abbrev pub ExactlyOneLeft : Type 0
@@ -49,3 +57,16 @@ HasNoMetas g = (i : ℕ) (d : Decl Term) → slice_get g i ≡ Some d → AllDec
 abbrev pub AcceptedLeftInScope : Type 0
 AcceptedLeftInScope = ForMetas (λ M. (g : Signature Term) (s f : Solutions) (fuel depth : ℕ) (a : Term) (q : ResolvedClause) (l : CheckedLeft Term) → SignatureInScope g M → HasNoMetas g → SolutionsInScope g M s → SolutionsInScope g M f
     → q.function < length (defs g) → InScope g M 0 a → LeftOf g s f fuel depth a q (Gives l) → LeftInScope g M l)
+
+-- the left side that is read of the patterns of a clause of function f of type a, without metavariables, with these answers of the unifier
+abbrev pub LeftBy : Signature Term → ℕ → Answers → ℕ → Term → List ResolvedPattern → Left → Type 0
+LeftBy g fuel u f a qs l = Comes g no_solutions fuel (answers u) (all_elims g f (map (pattern_meaning g f) qs) (start a)) (Gives l)
+
+-- over a sound signature, with the answers of an index unifier: the left side that is read is reached from the function step by step
+abbrev pub LeftIsReached : Type 0
+LeftIsReached = (g : Signature Term) (fuel : ℕ) (u : Answers) (f : ℕ) (a : Term) (qs : List ResolvedPattern) (l : Left) → IsSound g → IsUnifier g (answers u) → LeftBy g fuel u f a qs l → Reached g u f a l.context (left_term f l) l.ty
+
+-- and has its type, where the constructors that are put in the left sides of the function fit
+abbrev pub LeftIsTyped : Type 0
+LeftIsTyped = (g : Signature Term) (fuel : ℕ) (u : Answers) (f : ℕ) (a : Term) (qs : List ResolvedPattern) (l : Left) → IsSound g → IsUnifier g (answers u) → def_type g f ≡ Some a → ConstructorsFit g u f a → LeftBy g fuel u f a qs l
+    → Typing g l.context (left_term f l) l.ty

@@ -5,5 +5,6 @@ pub mod Families
 pub mod Rules
 pub mod Patterns
 pub mod Absurd
+pub mod Reached
 pub mod Laws
 pub mod Examples

@@ -1,7 +1,7 @@
 //! Laws of left sides. Each is the contract of a function that does nothing.
 //! The statements stand in `specs/Laws.antt`, under the same names.
 
-ghost use Rattle.lhs_rules.specs.Laws.{ExactlyOneLeft, AcceptedKeepsNothing, AcceptedClausesReady, AcceptedLeftInScope};
+ghost use Rattle.lhs_rules.specs.Laws.{ExactlyOneLeft, AcceptedKeepsNothing, AcceptedClausesReady, AcceptedLeftInScope, LeftIsReached, LeftIsTyped};
 
 use cover_rules::laws::clauses_plain;
 
@@ -25,4 +25,14 @@ pub fn accepted_clauses_ready()
 /// The left side of a clause that is accepted is in scope, where the signature, the function's type and the solutions of metavariables are.
 pub fn accepted_left_in_scope()
     ensures { AcceptedLeftInScope }
+{}
+
+/// The left side of a clause is reached from the function by the steps of typed trees, over a sound signature.
+pub fn left_is_reached()
+    ensures { LeftIsReached }
+{}
+
+/// It has its type, where the constructors that are put in it fit.
+pub fn left_is_typed()
+    ensures { LeftIsTyped }
 {}

@@ -16,7 +16,7 @@ use Rattle.core_rules.specs.Bounded as B
 use Rattle.core_rules.specs.Bounded.{Verdict, Yes, No, WaitsFor}
 use Rattle.core_rules.specs.BoundedLaws.{no_solutions, shown}
 use Rattle.core_rules.specs.Unification as U
-use Rattle.core_rules.specs.Unification.{Equation, eq, Solution, State, St, begin, Joins}
+use Rattle.core_rules.specs.Unification.{Equation, eq, Solution, State, St, begin}
 use Rattle.core_rules.specs.UnifierAnswers.{UnifiedBy}
 use Rattle.core_rules.proofs.Heads.Untouched.{signature_untouched}
 use Rattle.core_rules.proofs.Scope.Changed.{Each, each_at, over-in_scope, replace-in_scope}

@@ -34,7 +34,7 @@ placed_later : (o : Option ℕ) (j : ℕ) → option_map suc o ≡ Some j → (m
 placed_later None j e = absurd cc
 placed_later (Some m) j e = (m, refl, cc)
 
-placed_below : (i j : ℕ) (ks : List ℕ) → place_of i ks ≡ Some j → j < length ks
+pub placed_below : (i j : ℕ) (ks : List ℕ) → place_of i ks ≡ Some j → j < length ks
 placed_below i j [] e = absurd cc
 placed_below i j (k ∷ ks) e = by_test (eqb i k) e (λ m p. placed_below i m ks p)
   where
@@ -100,7 +100,7 @@ module _ (g : Signature Term) (M : ℕ → ℕ → Type 0) where
 
   -- ---- what a variable's spot is
 
-  spot-stands : (l : Left) (j i : ℕ) → spot_at l j ≡ AtVar i → slice_get l.spots j ≡ Some (AtVar i)
+  pub spot-stands : (l : Left) (j i : ℕ) → spot_at l j ≡ AtVar i → slice_get l.spots j ≡ Some (AtVar i)
   spot-stands l j i e = by_spot (slice_get l.spots j) e
     where
       by_spot : (o : Option Spot) → spot_or o ≡ AtVar i → o ≡ Some (AtVar i)
