@@ -1,0 +1,14 @@
+pub mod Lefts
+pub mod Elaborator
+pub mod Answers
+pub mod Dues
+pub mod Families
+pub mod Slots
+pub mod Moving
+pub mod Branches
+pub mod Opening
+pub mod Asked
+pub mod Constructors
+pub mod Reading
+pub mod Walking
+pub mod Settled
