@@ -74,7 +74,7 @@ marked-push x y b p s n m h k = record { at = at }
 
 -- the ids of a signature name as much when a function is applied to each of its terms
 module _ {A B : Type 0} (f : A → B) where
-  fam_count : (g : Signature A) → length (fams (signature_map f g)) ≡ length (fams g)
+  pub fam_count : (g : Signature A) → length (fams (signature_map f g)) ≡ length (fams g)
   fam_count [] = refl
   fam_count (Postulate x a ∷ g) = fam_count g
   fam_count (Family d ∷ g) = ap suc (fam_count g)
@@ -136,11 +136,11 @@ module _ (x : Ids) (h : Signature Term) (k : KnowsIds (signature_in x.pool.now x
     all_in_scope m End s l = tt
     all_in_scope m (And t ts) s l = (in_scope m t s.0 (omega (arith, l)), all_in_scope m ts s.1 (omega (arith, l)))
 
-  types_in_scope : (m : ℕ) (es : Telescope ℕ) → AreTypesUnder x m es → TelescopeInScope h any_meta m (telescope_map (tree x.pool.now) es)
+  pub types_in_scope : (m : ℕ) (es : Telescope ℕ) → AreTypesUnder x m es → TelescopeInScope h any_meta m (telescope_map (tree x.pool.now) es)
   types_in_scope m [] s = tt
   types_in_scope m (e ∷ es) s = (in_scope m (tree x.pool.now e.ty) s.0.ids s.0.reach, types_in_scope (m + 1) es s.1)
 
-  terms_in_scope : (m : ℕ) (ts : List ℕ) → AllByRecursion (IsTermUnder x m) ts → AllByRecursion (λ t. InScope h any_meta m t) (map (tree x.pool.now) ts)
+  pub terms_in_scope : (m : ℕ) (ts : List ℕ) → AllByRecursion (IsTermUnder x m) ts → AllByRecursion (λ t. InScope h any_meta m t) (map (tree x.pool.now) ts)
   terms_in_scope m [] s = tt
   terms_in_scope m (t ∷ ts) s = (in_scope m (tree x.pool.now t) s.0.ids s.0.reach, terms_in_scope m ts s.1)
 
@@ -155,7 +155,7 @@ module _ (x : Ids) (h : Signature Term) (k : KnowsIds (signature_in x.pool.now x
   cons_in_scope m [] s = tt
   cons_in_scope m (c ∷ cs) s = (con_in_scope m c s.0, cons_in_scope m cs s.1)
 
-knows_self : (g : Signature Term) → KnowsIds g g
+pub knows_self : (g : Signature Term) → KnowsIds g g
 knows_self g = record { functions = omega arith; families = omega arith; fields = omega arith; params = λ k n e. e }
 
 module _ (p : Pool) (g : Signature ℕ) (n : ℕ) (h : Signature Term) (k : KnowsIds (signature_in p g) h) (l : n ≤ length (fams h)) (x : Ids) (o : IsOver p g n x) where

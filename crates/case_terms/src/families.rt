@@ -1,5 +1,5 @@
 ghost use Rattle.std.specs.Prelude.{IfOk};
-ghost use Rattle.case_terms.specs.Families.{IsFamily};
+ghost use Rattle.case_terms.specs.Families.{IsFamily, IsShaped};
 
 use crate::fault::Fault;
 use crate::telescopes::{is_blank, telescope, terms};
@@ -23,7 +23,9 @@ struct Heading {
 }
 
 /// A postulate, whose word and type stand between bars, or a family.
-fn declaration(alloc: Global, pool: &mut TermPool, words: &str) -> Result<CoreDecl, Fault> {
+pub fn declaration(alloc: Global, pool: &mut TermPool, words: &str) -> Result<CoreDecl, Fault>
+    ensures { IfOk result IsShaped }
+{
     if let Some(words) = words.strip_prefix("postulate|") {
         let name = NameId::new(0);
         let ty = term(alloc, pool, words)?;

@@ -14,6 +14,8 @@ pub enum Fault {
     NoRow,
     /// The words are no term.
     NoTerm,
+    /// The steps are no case tree.
+    NoTree,
     Io(io::Error),
 }
 

@@ -15,7 +15,7 @@ use std::alloc::Global;
 #[derive(Drop)]
 pub struct Ids<'a> {
     pool: &'a TermPool,
-    sig: &'a Signature,
+    pub sig: &'a Signature,
     fams: u32,
     marks: Vec<bool>,
 }
@@ -118,7 +118,7 @@ impl<'a> Ids<'a> {
     }
 
     /// Whether each type is a term under the entries before it.
-    fn are_types(&self, under: usize, entries: &[Entry]) -> bool
+    pub fn are_types(&self, under: usize, entries: &[Entry]) -> bool
         requires { AreMarked self.now }
         ensures { IsTrue result → AreTypesUnder self.now under entries.now }
     {
@@ -133,7 +133,7 @@ impl<'a> Ids<'a> {
         true
     }
 
-    fn are_terms(&self, under: usize, terms: &[TermId]) -> bool
+    pub fn are_terms(&self, under: usize, terms: &[TermId]) -> bool
         requires { AreMarked self.now }
         ensures { IsTrue result → AllByRecursion (IsTermUnder self.now under) terms.now }
     {

@@ -1,7 +1,8 @@
 use crate::fault::Fault;
+use crate::terms::is_in;
 use crate::words::{read_number, term};
 use core_rules::Flag;
-use core_terms::{Entry, NameId, Row, Telescope, TermId, TermPool};
+use core_terms::{Entry, NameId, Row, Telescope, TermId, TermPool, shift};
 use std::alloc::Global;
 
 /// Types between commas, each under those before it, after `i:` where its variable is implicit. `5 times` before a type stands for
@@ -53,15 +54,38 @@ fn read_flag(words: &str) -> (Flag, &str) {
     }
 }
 
-/// The terms between commas.
+/// The terms between commas. `5 times` before one stands for five, in each of which the variables are one further out than in the one
+/// before.
 pub fn terms(alloc: Global, pool: &mut TermPool, words: &str) -> Result<Row<TermId>, Fault> {
     let mut made = Vec::new(alloc);
     if !is_blank(words) {
         for part in words.split(',') {
-            made.push(term(alloc, pool, part)?)?;
+            push_terms(alloc, pool, &mut made, part)?;
         }
     }
     Ok(Row::from_vec(made))
+}
+
+fn push_terms(
+    alloc: Global,
+    pool: &mut TermPool,
+    made: &mut Vec<TermId>,
+    words: &str,
+) -> Result<(), Fault> {
+    let (times, words) = read_times(words)?;
+    let t = term(alloc, pool, words)?;
+    for by in 0..times {
+        made.push(further(alloc, pool, t, by)?)?;
+    }
+    Ok(())
+}
+
+/// The term with its variables so much further out.
+pub fn further(alloc: Global, pool: &mut TermPool, t: TermId, by: u32) -> Result<TermId, Fault> {
+    if !is_in(pool, t) {
+        return Err(Fault::Stray);
+    }
+    Ok(shift(alloc, pool, t, 0, by)?)
 }
 
 pub fn is_blank(words: &str) -> bool {

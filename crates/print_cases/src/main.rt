@@ -4,7 +4,6 @@
 
 mod contexts;
 mod declared;
-mod inside;
 mod patterns;
 mod rows;
 mod words;

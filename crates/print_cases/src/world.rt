@@ -1,9 +1,8 @@
 use crate::contexts::{read_entries, read_solved};
 use crate::declared::declared;
-use crate::inside::is_left_in;
 use crate::patterns::patterns;
 use crate::words::{name, named_term};
-use case_terms::{Fault, are_entries, is_in, term};
+use case_terms::{Fault, are_entries, is_in, is_left_in, term};
 use core_print::{print_context, print_left_side, print_term};
 use core_terms::{
     CheckedLeft, MetaId, Names, NoSolutions, Row, Signature, Telescope, TermId, TermPool,

@@ -1,5 +1,5 @@
-use case_terms::{Fault, is_in, read_times, term};
-use core_terms::{TermId, TermPool, shift};
+use case_terms::{Fault, further, read_times, term};
+use core_terms::TermPool;
 use index_unify::Equation;
 use std::alloc::Global;
 
@@ -31,12 +31,4 @@ fn push_equations(
         })?;
     }
     Ok(())
-}
-
-/// The term with its variables so much further out.
-fn further(alloc: Global, pool: &mut TermPool, t: TermId, by: u32) -> Result<TermId, Fault> {
-    if !is_in(pool, t) {
-        return Err(Fault::Stray);
-    }
-    Ok(shift(alloc, pool, t, 0, by)?)
 }

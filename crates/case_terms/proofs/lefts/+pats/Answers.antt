@@ -2,8 +2,8 @@ use Rattle.std.proofs.Common.{◌<◌, ℕ, length, sym, ap, subst, arith}
 use Rattle.core_rules.specs.Mapped.{AllPats}
 use Rattle.core_terms.specs.Patterns.{pats_of}
 use Rattle.core_terms.specs.Sizes.{pats_size}
-use Rattle.core_print.proofs.Collecting.{con_size, pats_next, size_at}
-use Rattle.print_cases.proofs.inside.+pats.Goals as goal
+use Rattle.case_terms.proofs.Sizes.{con_size, pats_next, size_at}
+use Rattle.case_terms.proofs.lefts.+pats.Goals as goal
 
 pub are_pats_in-is_pat_in-requires : goal.are_pats_in-is_pat_in-requires
 are_pats_in-is_pat_in-requires t c = (omega (arith, size_at c.args.pats.now c.loop-pat.pat-index c.pat-item.result c.loop-pat-test.true c.pat-item.is), tt)

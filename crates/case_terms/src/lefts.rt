@@ -1,10 +1,11 @@
 ghost use Rattle.std.specs.Prelude.{◌<◌, length, IsTrue};
 ghost use Rattle.std.specs.List.{AllByRecursion};
-ghost use Rattle.core_rules.specs.Mapped.{AllLeft, AllPat, AllPats};
+ghost use Rattle.core_rules.specs.Mapped.{AllClause, AllLeft, AllPat, AllPats};
 ghost use Rattle.core_terms.specs.Patterns.{pats_of};
 
-use case_terms::{are_entries, is_in};
-use core_terms::{CheckedLeft, CorePat, PatShape, Solved, TermPool};
+use crate::scope::are_entries;
+use crate::terms::is_in;
+use core_terms::{CheckedLeft, CoreClause, CorePat, PatShape, Solved, TermPool};
 
 fn are_solved_in(pool: &TermPool, named: &[Solved]) -> bool
     ensures { IsTrue result → AllByRecursion (λ s. (s.value < length pool.now.trees) × (s.ty < length pool.now.trees)) named.now }
@@ -52,4 +53,30 @@ pub fn is_left_in(pool: &TermPool, left: &CheckedLeft) -> bool
         && are_entries(pool, left.context.entries.as_slice())
         && are_pats_in(pool, left.pats.as_slice())
         && are_solved_in(pool, left.named.as_slice())
+}
+
+fn is_clause_in(pool: &TermPool, clause: &CoreClause) -> bool
+    ensures { IsTrue result → AllClause (λ t. t < length pool.now.trees) clause.now }
+{
+    if !is_left_in(pool, &clause.left) {
+        return false;
+    }
+    match clause.right {
+        Some(right) => is_in(pool, right),
+        None => true,
+    }
+}
+
+/// Whether the terms of clauses without dotted values stand in the pool.
+pub fn are_clauses_in(pool: &TermPool, clauses: &[CoreClause]) -> bool
+    ensures { IsTrue result → AllByRecursion (AllClause (λ t. t < length pool.now.trees)) clauses.now }
+{
+    let mut left = clauses;
+    while let [clause, more @ ..] = left {
+        if !is_clause_in(pool, clause) {
+            return false;
+        }
+        left = more;
+    }
+    true
 }

@@ -1,6 +1,6 @@
 use Rattle.std.proofs.Common.{◌<◌, length}
 use Rattle.std.specs.List.{AllByRecursion}
-use Rattle.print_cases.proofs.inside.are_solved_in.Given as goal
+use Rattle.case_terms.proofs.lefts.are_solved_in.Given as goal
 
 abbrev pub invariant-loop-left : goal.invariant-loop-left
 invariant-loop-left l =

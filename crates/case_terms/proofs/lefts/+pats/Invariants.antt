@@ -2,7 +2,7 @@ use Rattle.std.proofs.Common.{◌<◌, ◌+◌, ◌*◌, drop, length}
 use Rattle.core_rules.specs.Mapped.{AllPats}
 use Rattle.core_terms.specs.Patterns.{pats_of}
 use Rattle.core_terms.specs.Sizes.{pat_size, pats_size}
-use Rattle.print_cases.proofs.inside.+pats.Given as goal
+use Rattle.case_terms.proofs.lefts.+pats.Given as goal
 
 abbrev pub invariant-are_pats_in-loop-pat : goal.invariant-are_pats_in-loop-pat
 invariant-are_pats_in-loop-pat l =
